@@ -2,7 +2,7 @@
 
 use pdb_early::{Look, line_ahead};
 use pdb_reason::Reason;
-use pdb_request::{Claim, LogCheck, Prove, Request, Search};
+use pdb_request::{LogCheck, LogClaim, Prove, Request, Solve};
 use sample_streams::SampleFiles;
 use std::alloc::{AllocError, Global};
 use std::sync::Wait;
@@ -15,7 +15,7 @@ pub(crate) type Named<'a> = (&'a str, &'a [u8]);
 /// A claim on a log over these tables.
 pub(crate) fn log_check<'a>(
     alloc: Global,
-    claim: Claim,
+    claim: LogClaim,
     tables: &[&'a str],
 ) -> Result<Request<'a>, AllocError> {
     Ok(Request::LogCheck(LogCheck {
@@ -31,12 +31,12 @@ pub(crate) fn log_check<'a>(
 
 /// A bound of a board, over these tables.
 pub(crate) fn bound<'a>(alloc: Global, tables: &[&'a str]) -> Result<Request<'a>, AllocError> {
-    log_check(alloc, Claim::Bound, tables)
+    log_check(alloc, LogClaim::Bound, tables)
 }
 
 /// A search over the table `t0`.
 pub(crate) fn search<'a>(alloc: Global) -> Result<Request<'a>, AllocError> {
-    Ok(Request::Search(Search {
+    Ok(Request::Solve(Solve {
         board: "board",
         sets: "sets",
         out: "out",

@@ -1,7 +1,7 @@
 //! Logs, and boards.
 
 use crate::asked::{Named, bound, log_check, search, sentence, told_of};
-use pdb_request::{Claim, Request};
+use pdb_request::{LogClaim, Request};
 use samples::files::TILES_12;
 use samples::logs::{LEAF, UNSOLVABLE};
 use std::test::Fail;
@@ -99,7 +99,7 @@ fn a_board_without_a_solution_is_told_of_a_search(rt: HostRuntime) -> Result<(),
 
 #[test]
 fn nothing_is_told_where_the_run_refuses_the_board_itself(rt: HostRuntime) -> Result<(), Fail> {
-    let optimum = log_check(rt.alloc(), Claim::Optimum, &["t0"])?;
+    let optimum = log_check(rt.alloc(), LogClaim::Optimum, &["t0"])?;
     let bound = bound(rt.alloc(), &["t0"])?;
     let search = search(rt.alloc())?;
     let sets = "refused S1 at line 0";

@@ -2,11 +2,12 @@
 
 use crate::sha256;
 use byte_io::streams::WriteFault;
-use pdb_run::{Answer, Digested, beside, lines, say, say_digests};
+use pdb_run::{CommandAnswer, Digested, beside, lines, say, say_digests};
 use sample_streams::{Failing, SampleWriter};
 use std::alloc::{AllocError, Global};
 use std::io::ErrorKind;
 use std::test::Fail;
+use work_run::{OpenGate, Workers};
 
 /// So many empty files.
 fn empty_files(alloc: Global, count: usize) -> Result<Vec<Vec<u8>>, AllocError> {
@@ -27,7 +28,7 @@ fn an_answer_is_one_write(rt: HostRuntime) -> Result<(), Fail> {
     let alloc = rt.alloc();
     let files = empty_files(alloc, 16)?;
     let mut out = taking(alloc, 1);
-    let answer = Answer {
+    let answer = CommandAnswer {
         digested: Digested::Files(files.as_slice(), Some(b"abc")),
         made: None,
         made_digest: None,
@@ -103,10 +104,14 @@ fn digests_are_made_beside_a_check(rt: HostRuntime) -> Result<(), Fail> {
         let files = known_files(alloc, count)?;
         let want = known_digests(alloc, count)?;
         for workers in [1u8, 2, 3, 7, 64] {
-            let (digests, answer) = beside(&rt, workers, files.as_slice(), Some(b""), || 6u8);
+            let workers = match workers {
+                1..=64 => Workers::new(&rt, alloc, workers, &OpenGate),
+                _ => panic!(rt; "1 to 64 workers"),
+            };
+            let (digests, answer) = beside(&workers, files.as_slice(), Some(b""), || 6u8);
             let are_right = match digests {
                 Some(digests) => digests.as_slice() == want.as_slice(),
-                None => workers == 1 || count > 16,
+                None => workers.count == 1 || count > 16,
             };
             assert!(rt; are_right && answer == 6);
         }

@@ -3,7 +3,9 @@
 use byte_io::memory::MemShelf;
 use byte_io::streams::put_bytes;
 use pdb_reason::{Beginning, Heard, Reason};
-use pdb_request::{Claim, LogCheck, MakeTable, Parts, Prove, Replay, Request, Search, TableCheck};
+use pdb_request::{
+    JoinParts, LogCheck, LogClaim, MakeTable, Prove, Replay, Request, Solve, TableCheck,
+};
 use std::alloc::{AllocError, Global};
 use std::process::Abort;
 use std::test::Fail;
@@ -19,7 +21,7 @@ fn tables<'a>(alloc: Global) -> Result<Vec<&'a str>, AllocError> {
 
 fn log_check<'a>(alloc: Global) -> Result<Request<'a>, AllocError> {
     Ok(Request::LogCheck(LogCheck {
-        claim: Claim::Bound,
+        claim: LogClaim::Bound,
         text: "board",
         sets: "sets",
         log: "log",
@@ -30,7 +32,7 @@ fn log_check<'a>(alloc: Global) -> Result<Request<'a>, AllocError> {
 }
 
 fn search<'a>(alloc: Global) -> Result<Request<'a>, AllocError> {
-    Ok(Request::Search(Search {
+    Ok(Request::Solve(Solve {
         board: "board",
         sets: "sets",
         out: "out",
@@ -273,7 +275,7 @@ fn names_of_one_file_and_of_none(rt: HostRuntime) -> Result<(), Fail> {
 
 /// Parts of a bound of the board in this file, or of standard input, joined.
 fn parts<'a>(alloc: Global, board: Option<&'a str>) -> Result<Request<'a>, AllocError> {
-    Ok(Request::Parts(Parts {
+    Ok(Request::JoinParts(JoinParts {
         board,
         bound: 6,
         count: 3,

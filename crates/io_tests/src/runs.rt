@@ -5,8 +5,8 @@ use byte_io::memory::MemShelf;
 use byte_io::shelf::Shelf;
 use byte_io::streams::ReadFault;
 use pdb_run::{
-    Answer, BorrowedIo, Command, Digested, Input, Keeping, Status, Unanswered, keep_and_conclude,
-    lines, load_all, read_inputs, read_inputs_and_try,
+    BorrowedIo, Command, CommandAnswer, Digested, Input, Keeping, Status, Unanswered,
+    keep_and_conclude, lines, load_all, read_inputs, read_inputs_and_try,
 };
 use sample_streams::{Failing, FailingShelf, SampleReader, SampleWriter, ShelfFault};
 use std::alloc::{AllocError, Global};
@@ -268,8 +268,8 @@ fn a_file_that_is_spared_ends_a_run(rt: HostRuntime) -> Result<(), Fail> {
 }
 
 /// Its answer where it made `abc`.
-fn makes_abc<'i>(alloc: Global, is_yes: bool) -> Result<Answer<'i>, Unanswered> {
-    Ok(Answer {
+fn makes_abc<'i>(alloc: Global, is_yes: bool) -> Result<CommandAnswer<'i>, Unanswered> {
+    Ok(CommandAnswer {
         digested: Digested::Files(&[], Some(b"")),
         made: Some(b"abc".to_vec(alloc)?),
         made_digest: None,
@@ -286,7 +286,7 @@ fn makes_abc<'i>(alloc: Global, is_yes: bool) -> Result<Answer<'i>, Unanswered> 
 fn conclude_making<S: Shelf>(
     alloc: Global,
     out_name: &str,
-    answer: &Result<Answer<'_>, Unanswered>,
+    answer: &Result<CommandAnswer<'_>, Unanswered>,
     shelf: &mut S,
     out: &mut SampleWriter,
 ) -> Status {

@@ -12,4 +12,4 @@ mod walks;
 
 pub use faults::{LogFault, LogRefusal};
 pub use lemmas::check_lemma;
-pub use logs::check_log;
+pub use logs::{check_log, check_log_by};

@@ -54,11 +54,11 @@ pub fn check_log<R: Threads + Wait, G: Gate + Sync>(
     ensures refused { (fault : LogRefusal) → IsLogRefusalOf fault bundle.now board.now file.now
         → (result ≡ Err (Refused fault)) ⊎ (result ≡ Err Memory) }
 {
-    proven_bound(bundle, file, board, &Workers::new(rt, alloc, workers, gate))
+    check_log_by(bundle, file, board, &Workers::new(rt, alloc, workers, gate))
 }
 
-/// The bound that a log proves for a board, or why it proves none.
-fn proven_bound<R: Threads + Wait, G: Gate + Sync>(
+/// As `check_log`, by these workers. What else that promises follows from these clauses.
+pub fn check_log_by<R: Threads + Wait, G: Gate + Sync>(
     bundle: &Bundle<'_>,
     file: &[u8],
     board: &Board,

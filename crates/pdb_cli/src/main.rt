@@ -4,10 +4,10 @@
 use byte_io::disk::DiskShelf;
 use byte_io::watched::Watched;
 use pdb_early::{Look, line_ahead, takes_long};
-use pdb_program::{ArgumentFault, Call, Host, start};
+use pdb_program::{ArgumentFault, ProgramCall, RunHost, start};
 use pdb_progress::{Watch, checked_files, is_asked_for};
 use pdb_reason::{Beginning, Heard, Reason};
-use pdb_run::Lines;
+use pdb_run::AnswerLines;
 use pdb_words::read_words;
 use std::alloc::Global;
 use std::env::Env;
@@ -85,7 +85,7 @@ fn line_before<R: Files + Threads + Wait>(
     rt: &R,
     alloc: Global,
     words: &[String],
-) -> Option<Lines> {
+) -> Option<AnswerLines> {
     let asked = read_words(alloc, words.get(1..).unwrap_or_default()).ok()?;
     if !takes_long(rt, &asked) {
         return None;
@@ -125,8 +125,8 @@ fn main(rt: HostRuntime) -> ExitCode {
         let _ = tell_reason(&rt, line.trim_end().as_bytes(), None, true);
     }
     let gate = Watch::asked_for(&rt, files_to_tell(&rt, words.as_slice()));
-    let call = Call {
-        host: Host {
+    let call = ProgramCall {
+        host: RunHost {
             rt: &rt,
             alloc: rt.alloc(),
             gate: &gate,

@@ -11,16 +11,16 @@ const MOST_SEEN: usize = 4096;
 
 /// The start of a plain file.
 #[derive(Drop)]
-pub(crate) struct Front {
+pub(crate) struct FileStart {
     /// Its first 4096 bytes, or all where it has fewer.
     bytes: Vec<u8>,
     /// How many bytes it has.
     length: u64,
 }
 
-impl Front {
+impl FileStart {
     /// The start of the file under a name. Of what is no plain file, as a pipe, and of what can't be read there is none.
-    pub(crate) fn of<R: Files>(alloc: Global, files: &R, name: &str) -> Option<Front> {
+    pub(crate) fn of<R: Files>(alloc: Global, files: &R, name: &str) -> Option<FileStart> {
         let data = fs::metadata(files, name).ok()?;
         if !data.is_file() {
             return None;
@@ -34,7 +34,7 @@ impl Front {
         } else {
             data.len()
         };
-        Some(Front { bytes, length })
+        Some(FileStart { bytes, length })
     }
 
     /// Its bytes, as far as they are seen.

@@ -1,6 +1,6 @@
 //! The headers of table files.
 
-use crate::fronts::Front;
+use crate::fronts::FileStart;
 use byteorder::{BigEndian, ByteOrder};
 use pat_place::Pattern;
 use puz_board::Side;
@@ -9,7 +9,7 @@ use std::rt::Files;
 use tab_file::{HEADER_LEN, HeadFault, view};
 
 /// The pattern that the header of a table file names, or why the header is refused.
-fn pattern_in(front: &Front) -> Option<Result<Pattern, HeadFault>> {
+fn pattern_in(front: &FileStart) -> Option<Result<Pattern, HeadFault>> {
     match view(front.bytes()) {
         Ok(_) | Err(HeadFault::T6) => {}
         Err(fault) => return Some(Err(fault)),
@@ -34,7 +34,7 @@ pub(crate) fn patterns_of<R: Files>(
     let mut patterns = Vec::new(alloc);
     let mut are_all = true;
     for (number, name) in tables.iter().enumerate() {
-        let seen = Front::of(alloc, files, name).and_then(|front| pattern_in(&front));
+        let seen = FileStart::of(alloc, files, name).and_then(|front| pattern_in(&front));
         let is_kept = match seen {
             Some(Ok(pattern)) => patterns.push(pattern).is_ok(),
             Some(Err(fault)) => return Err((number, fault)),

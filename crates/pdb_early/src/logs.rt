@@ -1,6 +1,6 @@
 //! The headers of log files, and sides.
 
-use crate::fronts::Front;
+use crate::fronts::FileStart;
 use log_check::LogRefusal;
 use log_file::{FormFault, LogView, ViewFault};
 use puz_board::{Board, Side};
@@ -9,7 +9,7 @@ use std::alloc::Global;
 /// Why a log is refused, as far as its first bytes tell, and the board and the tables' side where they are known.
 pub(crate) fn log_fault(
     alloc: Global,
-    front: Option<&Front>,
+    front: Option<&FileStart>,
     board: Option<&Board>,
     side: Option<Side>,
 ) -> Option<LogRefusal> {
@@ -29,7 +29,7 @@ pub(crate) fn log_fault(
 }
 
 /// Why a file is no log file. Of a file that isn't seen whole this is said of its header alone.
-fn form_fault(alloc: Global, front: &Front) -> Option<FormFault> {
+fn form_fault(alloc: Global, front: &FileStart) -> Option<FormFault> {
     match LogView::read(alloc, front.bytes()) {
         Err(ViewFault::Refused(fault)) if fault == FormFault::L1 || front.whole().is_some() => {
             Some(fault)

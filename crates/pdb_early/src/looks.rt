@@ -1,14 +1,14 @@
 //! Looks at the files of a run before it begins.
 
-use crate::fronts::Front;
+use crate::fronts::FileStart;
 use crate::headers::patterns_of;
 use crate::logs::{differ, log_fault};
 use crate::sets::sets_fault;
 use crate::texts::{board_of, of_another_side};
 use claim_text::read_claims;
 use log_check::LogRefusal;
-use pdb_request::{Claim, LogCheck, Prove, Request, Search};
-use pdb_run::Lines;
+use pdb_request::{LogCheck, LogClaim, Prove, Request, Solve};
+use pdb_run::AnswerLines;
 use pdb_verdict::{Fault, line_of};
 use puz_board::{Board, Side};
 use puz_make::is_solvable;
@@ -29,12 +29,12 @@ pub struct Look<'a, H, R> {
 
 impl<H, R: Files> Look<'_, H, R> {
     /// The start of a file.
-    fn front(&self, name: &str) -> Option<Front> {
-        Front::of(self.alloc, self.files, name)
+    fn front(&self, name: &str) -> Option<FileStart> {
+        FileStart::of(self.alloc, self.files, name)
     }
 
     /// The board of the text of which something is claimed, where all of the text is seen. `None` where the text is refused.
-    fn board(&self, claim: Claim, name: &str) -> Option<Option<Board>> {
+    fn board(&self, claim: LogClaim, name: &str) -> Option<Option<Board>> {
         let front = self.front(name);
         match front.as_ref().and_then(|front| front.whole()) {
             Some(text) => Some(Some(board_of(claim, text)?)),
@@ -64,7 +64,7 @@ pub fn takes_long<R: Files>(files: &R, asked: &Request<'_>) -> bool {
 fn tables_of<'a, 'x>(asked: &'x Request<'a>) -> &'x [&'a str] {
     match asked {
         Request::LogCheck(check) => check.tables.as_slice(),
-        Request::Search(search) => search.tables.as_slice(),
+        Request::Solve(search) => search.tables.as_slice(),
         Request::Prove(prove) => prove.tables.as_slice(),
         _ => &[],
     }
@@ -78,10 +78,10 @@ fn tables_of<'a, 'x>(asked: &'x Request<'a>) -> &'x [&'a str] {
 pub fn line_ahead<H: Threads + Wait, R: Files>(
     look: &Look<'_, H, R>,
     asked: &Request<'_>,
-) -> Option<Lines> {
+) -> Option<AnswerLines> {
     let fault = match asked {
         Request::LogCheck(check) => log_check_fault(look, check),
-        Request::Search(search) => search_fault(look, search),
+        Request::Solve(search) => search_fault(look, search),
         Request::Prove(prove) => prove_fault(look, prove),
         _ => None,
     };
@@ -107,9 +107,9 @@ fn log_check_fault<H: Threads + Wait, R: Files>(
 /// Of `solve`.
 fn search_fault<H: Threads + Wait, R: Files>(
     look: &Look<'_, H, R>,
-    search: &Search<'_, &str>,
+    search: &Solve<'_, &str>,
 ) -> Option<Fault> {
-    let board = look.board(Claim::Bound, search.board)?;
+    let board = look.board(LogClaim::Bound, search.board)?;
     match side_of(look, search.sets, search.tables.as_slice()) {
         Ok(side) => {
             let board = board?;
@@ -128,7 +128,7 @@ fn search_fault<H: Threads + Wait, R: Files>(
 /// Of `prove`.
 fn prove_fault<H: Threads + Wait, R: Files>(
     look: &Look<'_, H, R>,
-    prove: &Prove<'_>,
+    prove: &Prove<Option<&str>, &str>,
 ) -> Option<Fault> {
     let front = prove.claims.and_then(|name| look.front(name));
     let claims = match front.as_ref().and_then(|front| front.whole_lines()) {

@@ -7,7 +7,7 @@ use std::str;
 
 /// The tiles of a member of a set.
 #[derive(Clone, Copy, Default)]
-struct Tiles {
+struct MemberTiles {
     /// Bit t for tile t.
     mask: u32,
     /// Whether the member is transposed.
@@ -31,7 +31,7 @@ pub(crate) fn tiles_fault(text: &[u8], patterns: &[Pattern]) -> Option<SetFault>
 }
 
 /// The tiles of each member of a line.
-fn members_of(line: &str, patterns: &[Pattern]) -> Option<ArrayVec<Tiles, MOST_MEMBERS>> {
+fn members_of(line: &str, patterns: &[Pattern]) -> Option<ArrayVec<MemberTiles, MOST_MEMBERS>> {
     let mut members = ArrayVec::new();
     for word in line.split(' ').skip(1) {
         let transposed = word.strip_suffix('t');
@@ -44,7 +44,7 @@ fn members_of(line: &str, patterns: &[Pattern]) -> Option<ArrayVec<Tiles, MOST_M
         if members.is_full() {
             return None;
         }
-        members.push(Tiles {
+        members.push(MemberTiles {
             mask,
             is_transposed: transposed.is_some(),
         });
@@ -53,7 +53,7 @@ fn members_of(line: &str, patterns: &[Pattern]) -> Option<ArrayVec<Tiles, MOST_M
 }
 
 /// Whether two members have the same tiles, and one of them is transposed.
-fn is_one_twice(members: &[Tiles]) -> bool {
+fn is_one_twice(members: &[MemberTiles]) -> bool {
     for (number, member) in members.iter().enumerate() {
         if has_them_too(&members[..number], member) {
             return true;
@@ -63,14 +63,14 @@ fn is_one_twice(members: &[Tiles]) -> bool {
 }
 
 /// Whether one of these members has the same tiles as another one, and one of the two is transposed.
-fn has_them_too(members: &[Tiles], other: &Tiles) -> bool {
+fn has_them_too(members: &[MemberTiles], other: &MemberTiles) -> bool {
     members.iter().any(|member| {
         member.mask == other.mask && (member.is_transposed || other.is_transposed)
     })
 }
 
 /// Whether two members have a tile in common.
-fn is_one_shared(members: &[Tiles]) -> bool {
+fn is_one_shared(members: &[MemberTiles]) -> bool {
     let mut taken = 0;
     for member in members {
         if taken & member.mask != 0 {

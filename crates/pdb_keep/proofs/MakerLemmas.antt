@@ -12,9 +12,9 @@ use Rattle.puz_board.proofs.PuzzleLemmas.{puzzle_parts-puzzle}
 use Rattle.pat_place.proofs.MaskLemmas.{numbers_of-one}
 use Rattle.tab_file.specs.TableFiles.{IsTableFile}
 use Rattle.byte_io.specs.Shelf.{Bytes}
-use Rattle.pdb_request.specs.declared.requests.Search.{Search}
+use Rattle.pdb_request.specs.declared.requests.Solve.{Solve}
 use Rattle.pdb_run.specs.Answers.{IsMadeBy}
-use Rattle.pdb_run.specs.declared.answers.Answer.{Answer}
+use Rattle.pdb_run.specs.declared.answers.CommandAnswer.{CommandAnswer}
 use Rattle.pdb_run.specs.declared.answers.Unanswered.{Unanswered}
 use Rattle.pdb_run.specs.declared.answers.Unanswered.TheVariants.{Memory, Wrong}
 use Rattle.pdb_verdict.specs.FileBundles.{AreRefused, IsCauseForBundle}
@@ -115,7 +115,7 @@ made_moves fold budget text sets tables (Err cause) is = tt
 -- ---- what is told of a search
 
 -- an answer on what was read is one on the inputs
-pub search_answered : {A : Type 0} (inputs : List Bytes) (search : Search (Vec ℕ A)) (told : Result Answer Unanswered)
+pub search_answered : {A : Type 0} (inputs : List Bytes) (search : Solve (Vec ℕ A)) (told : Result CommandAnswer Unanswered)
     → inputs ≡ search_read search → IsSearchAnswer search told
     → IsMadeBy (IsSolveReply search.fold search.budget inputs) (SolveTakesMemory inputs) (SolveMakes search.fold inputs) told
 search_answered inputs search (Ok answer) are says = (says.0, (_, _, _, are, says.1), says.2)

@@ -6,7 +6,7 @@ use Rattle.std.specs.Str.{bytes_eq}
 use Rattle.std.proofs.lemmas.Slice.Eq.{bytes_eq-Decides}
 use Rattle.byte_io.specs.Shelf.{Bytes, Files, told_with, with_file}
 use Rattle.pdb_request.specs.Asked.{LogArguments, SolveArguments}
-use Rattle.pdb_request.specs.declared.requests.Claim.TheVariants.{Bound}
+use Rattle.pdb_request.specs.declared.requests.LogClaim.TheVariants.{Bound}
 use Rattle.pdb_run.specs.Inputs.{AreRead}
 use Rattle.pdb_run.specs.Runs.{IsAnswered, World}
 use Rattle.pdb_run.specs.declared.statuses.Status.{Status}

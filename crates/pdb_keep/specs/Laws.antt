@@ -5,7 +5,7 @@ use Rattle.puz_board.specs.MovesTexts.{Solves}
 use Rattle.byte_io.specs.Shelf.{Bytes, Files}
 use Rattle.byte_io.specs.Streams.{WritesAll}
 use Rattle.pdb_request.specs.Asked.{LogArguments, MakeTableArguments, SolveArguments}
-use Rattle.pdb_request.specs.declared.requests.Claim.TheVariants.{Bound}
+use Rattle.pdb_request.specs.declared.requests.LogClaim.TheVariants.{Bound}
 use Rattle.pdb_run.specs.Writing.{digests_of}
 use Rattle.pdb_run.specs.Runs.{Ends, World}
 use Rattle.pdb_run.specs.declared.statuses.Status.{Status}

@@ -1,9 +1,9 @@
 -- What the steps of a maker's command answer: a result, or want of memory in its place.
 use Rattle.std.specs.Prelude.{◌≡◌, ⊤, ℕ, Bool, List, ◌∷◌, Option, Some, None, Result, Ok, Err, IfOk, IfSome, Vec, length}
 use Rattle.byte_io.specs.Shelf.{Bytes}
-use Rattle.pdb_request.specs.declared.requests.Search.{Search}
+use Rattle.pdb_request.specs.declared.requests.Solve.{Solve}
 use Rattle.pdb_run.specs.Answers.{IsMadeBy, all_bytes}
-use Rattle.pdb_run.specs.declared.answers.Answer.{Answer}
+use Rattle.pdb_run.specs.declared.answers.CommandAnswer.{CommandAnswer}
 use Rattle.pdb_run.specs.declared.answers.Unanswered.{Unanswered}
 use Rattle.set_sum.specs.Bundles.{ShownBundle}
 use Rattle.pdb_verdict.specs.Bound.{TakesMemoryForBound}
@@ -44,11 +44,11 @@ HasItsMoves outcome = IfOk outcome (λ made. IfSome made (λ made. length (lette
 
 module _ {A : Type 0} where
   -- the files that were read for a search, in order
-  abbrev pub search_read : Search (Vec ℕ A) → List Bytes
+  abbrev pub search_read : Solve (Vec ℕ A) → List Bytes
   search_read search = search.board.items ∷ search.sets.items ∷ all_bytes search.tables.items
 
   -- the answer tells what comes of a search over them, or there is none for want of memory or since what was made is wrong
-  abbrev pub IsSearchAnswer : Search (Vec ℕ A) → Result Answer Unanswered → Type 0
+  abbrev pub IsSearchAnswer : Solve (Vec ℕ A) → Result CommandAnswer Unanswered → Type 0
   IsSearchAnswer search answer =
       let text = search.board.items in
       let sets = search.sets.items in

@@ -19,7 +19,7 @@ use crate::spared::spared_by_table;
 use pat_place::Pattern;
 use pdb_request::MakeTable;
 use pdb_run::{
-    Answer, Command, Digested, Digests, Input, Io, Keeping, Status, Unanswered, beside,
+    Command, CommandAnswer, Digested, Digests, Input, Io, Keeping, Status, Unanswered, beside,
     keep_and_conclude, read_inputs_and_try,
 };
 use pdb_verdict::{Fault, Verdict, line_of, settled, told, verify_table};
@@ -75,14 +75,14 @@ fn answer_make_table<H: Threads + Wait + Sync, G: Gate + Sync>(
     side: u8,
     mask: u32,
     workers: &Workers<'_, H, G>,
-) -> Result<Answer<'static>, Unanswered>
+) -> Result<CommandAnswer<'static>, Unanswered>
     ensures { let pattern = ArePattern side mask in
         IsMadeBy (TellsBuild side mask) pattern pattern result }
 {
     let nothing = Digested::Files(&[], None);
     let build = settled(build_table(side, mask, workers))?;
     match build {
-        Ok(Some(built)) => Ok(Answer {
+        Ok(Some(built)) => Ok(CommandAnswer {
             digested: nothing,
             lines: line_of(&Ok(built.said)),
             is_yes: true,
@@ -136,7 +136,7 @@ fn build_table<H: Threads + Wait + Sync, G: Gate + Sync>(
     let check = || -> Result<Verdict, Fault>
         ensures { IsAnswerTo (table_file table.entry.now) result }
     { verify_table(table, workers) };
-    let (digest, answer) = beside(workers.rt, workers.count, &[], Some(table), check);
+    let (digest, answer) = beside(workers, &[], Some(table), check);
     match settled(answer)? {
         Ok(said) => Ok(Some(Built { file, digest, said })),
         Err(_) => Ok(None),

@@ -1,22 +1,22 @@
 //! The inputs of a search: what is wanted, in order, and what was read, in the same order.
 
 ghost use Rattle.std.specs.Prelude.{◌≡◌, ◌≤◌, length};
-ghost use Rattle.pdb_request.specs.Asked.{search_shown};
+ghost use Rattle.pdb_request.specs.Asked.{solve_shown};
 ghost use Rattle.pdb_run.specs.Answers.{all_bytes};
 ghost use Rattle.pdb_keep.specs.Solve.{solve_plan};
 ghost use Rattle.pdb_keep.specs.Steps.{search_read};
 
-use pdb_request::Search;
+use pdb_request::Solve;
 use pdb_run::{Command, Input};
 use pdb_verdict::{a_text, with_tables};
 use std::alloc::{AllocError, Global};
 
 /// A search, as a command.
 #[derive(Clone, Copy)]
-pub(crate) struct Searching<'c, 'n>(pub(crate) &'c Search<'n, &'n str>);
+pub(crate) struct Solving<'c, 'n>(pub(crate) &'c Solve<'n, &'n str>);
 
-impl Command for Searching<'_, '_> {
-    ghost plan = { λ command. solve_plan (search_shown command.0.now) };
+impl Command for Solving<'_, '_> {
+    ghost plan = { λ command. solve_plan (solve_shown command.0.now) };
 
     fn inputs(&self, alloc: Global) -> Result<Vec<Input<'_>>, AllocError> {
         let search = self.0;
@@ -27,16 +27,16 @@ impl Command for Searching<'_, '_> {
 
 /// A search with the bytes of its inputs, which were read in their order.
 pub(crate) fn with_bytes<'n>(
-    search: &Search<'n, &'n str>,
+    search: &Solve<'n, &'n str>,
     inputs: Vec<Vec<u8>>,
-) -> Search<'n, Vec<u8>>
+) -> Solve<'n, Vec<u8>>
     requires { 2 ≤ length inputs.items }
     ensures fold { result.fold ≡ search.now.fold }
     ensures budget { result.budget ≡ search.now.budget }
     ensures inputs { all_bytes inputs.items ≡ search_read result }
 {
     let mut tables = inputs;
-    Search {
+    Solve {
         board: tables.remove(0),
         sets: tables.remove(0),
         out: search.out,

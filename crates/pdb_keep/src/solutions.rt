@@ -5,14 +5,14 @@ ghost use Rattle.pdb_keep.specs.Solve.{letters_of, lines_on};
 
 use arrayvec::ArrayString;
 use itoa::Buffer;
-use pdb_run::{Lines, lines};
+use pdb_run::{AnswerLines, lines};
 use puz_board::Move;
 
 /// The most letters of the moves of an optimum: how many they are is a byte.
 const MOST_LETTERS: usize = u8::MAX as usize;
 
 /// The letters of the moves of a text, and how many they are.
-pub(crate) fn lines_on(moves: &[u8], count: u8) -> Lines
+pub(crate) fn lines_on(moves: &[u8], count: u8) -> AnswerLines
     requires { length (letters_of moves.now) ≡ count }
     ensures { result.bytes ≡ lines_on moves.now count }
 {

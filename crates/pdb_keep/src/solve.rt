@@ -3,7 +3,7 @@
 ghost use Rattle.std.specs.Prelude.{◌≡◌, ◌∷◌, Bool, Ok, List, ℕ, [], length, IfErr, IfOk, IfSome};
 ghost use Rattle.puz_board.specs.BoardTexts.{Spells};
 ghost use Rattle.puz_board.specs.Boards.{side_of};
-ghost use Rattle.pdb_request.specs.Asked.{search_shown};
+ghost use Rattle.pdb_request.specs.Asked.{solve_shown};
 ghost use Rattle.pdb_run.specs.Writing.{digests_of};
 ghost use Rattle.pdb_run.specs.Answers.{IsMadeBy, IsReplyOf, digest_lines};
 ghost use Rattle.pdb_run.specs.Runs.{Ends};
@@ -17,14 +17,14 @@ ghost use Rattle.pdb_keep.specs.Steps.{CameTo, HasItsMoves, IsGivenUp, IsSearchA
 
 use crate::given_up::cause_of;
 use crate::made::Made;
-use crate::search_inputs::{Searching, with_bytes};
+use crate::search_inputs::{Solving, with_bytes};
 use crate::solutions::lines_on;
 use crate::spared::spared_by_log;
 use log_check::LogRefusal;
-use pdb_request::Search;
+use pdb_request::Solve;
 use pdb_run::{
-    Answer, Digested, Io, Keeping, Status, Unanswered, beside, digested_beside, keep_and_conclude,
-    read_inputs_and_try,
+    CommandAnswer, Digested, Io, Keeping, Status, Unanswered, beside, digested_beside,
+    keep_and_conclude, read_inputs_and_try,
 };
 use pdb_verdict::{Bundling, Fault, optimum_over, over_tables, settled, told};
 use puz_board::Board;
@@ -39,15 +39,15 @@ use work_run::{Gate, Workers};
 /// replaced unasked, is tried before anything is checked.
 #[inline(never)] // so that the stack has the values of one command alone
 pub fn run_solve<H: Threads + Wait + Sync, G: Gate + Sync, I: Io>(
-    search: &Search<'_, &str>,
+    search: &Solve<'_, &str>,
     workers: &Workers<'_, H, G>,
     io: &mut I,
 ) -> Status
     ensures same_streams { I.streams io.new ≡ I.streams io.old }
-    ensures ends { let plan = solve_plan (search_shown search.now) in
+    ensures ends { let plan = solve_plan (solve_shown search.now) in
         Ends plan (I.world io.old) (I.world io.new) result }
 {
-    let command = Searching(search);
+    let command = Solving(search);
     let keeping = Keeping {
         name: search.out,
         spares: spared_by_log(search.replace),
@@ -62,13 +62,13 @@ pub fn run_solve<H: Threads + Wait + Sync, G: Gate + Sync, I: Io>(
 
 /// The answer to a search. The board text comes before all else, and takes no memory.
 fn answer_search<'i, H: Threads + Wait + Sync, G: Gate + Sync>(
-    search: &'i mut Search<'_, Vec<u8>>,
+    search: &'i mut Solve<'_, Vec<u8>>,
     workers: &Workers<'_, H, G>,
-) -> Result<Answer<'i>, Unanswered>
+) -> Result<CommandAnswer<'i>, Unanswered>
     ensures { IsSearchAnswer search.old result }
 {
     let (fold, budget) = (search.fold, search.budget);
-    let Search {
+    let Solve {
         board,
         sets,
         tables,
@@ -88,13 +88,8 @@ fn answer_search<'i, H: Threads + Wait + Sync, G: Gate + Sync>(
         }
         Err(refused) => {
             let tables = tables.as_slice();
-            let (digested, outcome) = digested_beside(
-                workers.rt,
-                workers.count,
-                tables,
-                None,
-                || { Err(Fault::Board(refused)) },
-            );
+            let refuse = || Err(Fault::Board(refused));
+            let (digested, outcome) = digested_beside(workers, tables, None, refuse);
             answer_of(digested, outcome)
         }
     }
@@ -104,7 +99,7 @@ fn answer_search<'i, H: Threads + Wait + Sync, G: Gate + Sync>(
 fn answer_of<'i>(
     digested: Digested<'i>,
     outcome: Result<Option<Made>, Fault>,
-) -> Result<Answer<'i>, Unanswered>
+) -> Result<CommandAnswer<'i>, Unanswered>
     requires { HasItsMoves outcome }
     ensures { (fold : Bool) (budget : ℕ) (text sets : List ℕ) (tables : List (List ℕ))
         → digest_lines digested.entry ≡ digests_of tables
@@ -121,13 +116,13 @@ fn answer_of<'i>(
 }
 
 /// The answer on what a search made.
-fn answer_on<'i>(digested: Digested<'i>, made: Made) -> Answer<'i>
+fn answer_on<'i>(digested: Digested<'i>, made: Made) -> CommandAnswer<'i>
     requires { length (letters_of made.moves.items) ≡ made.count }
     ensures { (tables : List (List ℕ)) → digest_lines digested.entry ≡ digests_of tables
         → IsReplyOf result
         (reply_to_search tables (searched made.moves.items made.log.items made.count)) }
 {
-    Answer {
+    CommandAnswer {
         digested,
         lines: lines_on(made.moves.as_slice(), made.count),
         is_yes: true,
@@ -180,7 +175,7 @@ fn search_over<H: Threads + Wait + Sync, G: Gate + Sync>(
         ensures { let log = log.entry.now in
             IsOptimumOver bundle.entry.now board.entry.now moves.entry.now log result }
     { optimum_over(bundle, board, moves, log, workers) };
-    let (digest, answer) = beside(workers.rt, workers.count, &[], Some(log), check);
+    let (digest, answer) = beside(workers, &[], Some(log), check);
     let Ok(count) = settled(answer)? else {
         return Ok(None);
     };

@@ -14,7 +14,7 @@ ghost use Rattle.pdb_parts.specs.Steps.{TellsBeside, reading_plan};
 use crate::joining::{Joined, join};
 use crate::marks::BoundInParts;
 use crate::skipped::tell_skipped;
-use pdb_request::Parts;
+use pdb_request::JoinParts;
 use pdb_run::{
     Command, Digested, Input, Io, Status, conclude, read_inputs, say_no_memory, say_text,
 };
@@ -28,7 +28,7 @@ const ANSWERS_LIMIT: u64 = 1 << 26;
 
 /// Parts whose board text and answer lines are read, as a command: it answers a board text that is refused.
 #[derive(Clone, Copy)]
-struct Reading<'c, 'n>(&'c Parts<'n>);
+struct Reading<'c, 'n>(&'c JoinParts<'n>);
 
 impl Command for Reading<'_, '_> {
     ghost plan = { λ command. reading_plan (parts_shown command.0.now) };
@@ -80,7 +80,7 @@ fn files_read(inputs: Vec<Vec<u8>>) -> (Vec<u8>, Vec<Vec<u8>>)
 #[inline(never)] // so that the stack has the values of one command alone
 pub fn run_parts<I: Io, E: Write>(
     alloc: Global,
-    asked: &Parts<'_>,
+    asked: &JoinParts<'_>,
     io: &mut I,
     err: &mut E,
 ) -> Status

@@ -12,7 +12,7 @@ use Rattle.tab_rule.specs.ExactTables.{IsExactFile}
 use Rattle.byte_io.specs.Shelf.{Bytes, Files, with_file}
 use Rattle.byte_io.specs.Streams.{output}
 use Rattle.pdb_request.specs.Asked.{Asked, ProveArguments, TableArguments, bound, make_table, optimal, parts, prove, replay, solve, table}
-use Rattle.pdb_request.specs.declared.requests.Claim.TheVariants.{Bound, Optimum}
+use Rattle.pdb_request.specs.declared.requests.LogClaim.TheVariants.{Bound, Optimum}
 use Rattle.pdb_run.specs.Calls.{Calls}
 use Rattle.pdb_run.specs.Commands.{Wanted}
 use Rattle.pdb_run.specs.Inputs.{AreRead, Failures, IsReadFrom, left}

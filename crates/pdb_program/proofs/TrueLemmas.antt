@@ -31,8 +31,8 @@ use Rattle.pdb_verdict.specs.declared.verdicts.Fault.{Fault}
 use Rattle.pdb_prove.specs.Answers.{IsFoundOf, IsToldOf, are_yes, told_of, is_yes, words_of}
 use Rattle.pdb_prove.specs.Prove.{ClaimsFiles, IsOutcomeOf, Outcome, TellsClaims, answered, budget_of, digested_files, prove_plan, reply_to_claims}
 use Rattle.pdb_prove.specs.Prove.{told_lines, unready}
-use Rattle.pdb_prove.specs.declared.answers.Found.{Found}
-use Rattle.pdb_prove.specs.declared.answers.Found.TheVariants.{Bound, Optimum, Part, Refused, Shorter, Shortest}
+use Rattle.pdb_prove.specs.declared.answers.Finding.{Finding}
+use Rattle.pdb_prove.specs.declared.answers.Finding.TheVariants.{Bound, Optimum, Part, Refused, Shorter, Shortest}
 use Rattle.pdb_program.specs.Headline.{AreAYes, AreWholeLines, HasLine, HoldsOfClaim, SaysYes}
 use Rattle.pdb_program.specs.PartLines.{ArePartLinesTrue, HoldsOfPart, SaysPart}
 use Rattle.pdb_program.specs.Programs.{EndsFor}
@@ -84,7 +84,7 @@ first_boards (claim ∷ first) others boards = (boards.0, first_boards first oth
 
 module _ (guide : ShownGuide) (budget : ℕ) where
   -- what is found for what a claim asks is told truly
-  found_true : (b : List ℕ) (asks : ShownAsks) (found : Found) → IsBoard b → IsFoundOf guide budget b asks found → IsTrueTold (told_of b asks found)
+  found_true : (b : List ℕ) (asks : ShownAsks) (found : Finding) → IsBoard b → IsFoundOf guide budget b asks found → IsTrueTold (told_of b asks found)
   found_true b (claims.bound r) Bound board is = (board, is.1.0)
   found_true b (claims.bound r) (Optimum n) board is = absurd is
   found_true b (claims.bound r) (Shortest n letters) board is = absurd is

@@ -5,7 +5,7 @@ use Rattle.byte_io.specs.Shelf.{Bytes}
 use Rattle.byte_io.specs.Streams.{WritesAll}
 use Rattle.byte_io.specs.declared.streams.ReadFault.TheVariants.{F2}
 use Rattle.pdb_request.specs.Asked.{Asked, bound, make_table, optimal, parts, prove, replay, solve, table}
-use Rattle.pdb_request.specs.declared.requests.Claim.TheVariants.{Bound, Optimum}
+use Rattle.pdb_request.specs.declared.requests.LogClaim.TheVariants.{Bound, Optimum}
 use Rattle.pdb_run.specs.Commands.{Plan, Wanted}
 use Rattle.pdb_run.specs.Inputs.{IsFirstUnread}
 use Rattle.pdb_run.specs.Runs.{Ends, HasCause, HasMade, IsAnswered, IsSpared, Outcome, World, status_of, text_of}

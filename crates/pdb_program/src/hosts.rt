@@ -8,7 +8,7 @@ use work_run::Workers;
 
 /// What a run has of its host.
 #[derive(Drop)]
-pub struct Host<'h, H, G> {
+pub struct RunHost<'h, H, G> {
     /// What starts threads.
     pub rt: &'h H,
     /// Memory.
@@ -17,7 +17,7 @@ pub struct Host<'h, H, G> {
     pub gate: &'h G,
 }
 
-impl<'h, H, G> Host<'h, H, G> {
+impl<'h, H, G> RunHost<'h, H, G> {
     /// So many workers.
     pub(crate) fn workers(&self, count: u8) -> Workers<'h, H, G>
         requires { AreWorkers count }
@@ -38,7 +38,7 @@ pub enum ArgumentFault {
 
 /// How the program is called: its host, and its arguments, of which the first is its own name.
 #[derive(Drop)]
-pub struct Call<'h, H, G> {
-    pub host: Host<'h, H, G>,
+pub struct ProgramCall<'h, H, G> {
+    pub host: RunHost<'h, H, G>,
     pub arguments: Result<Vec<String>, ArgumentFault>,
 }

@@ -7,7 +7,7 @@ mod programs;
 mod refusals;
 mod starts;
 
-pub use hosts::{ArgumentFault, Call, Host};
+pub use hosts::{ArgumentFault, ProgramCall, RunHost};
 pub use in_memory::{MemoryRun, run_in_memory};
 pub use programs::run;
 pub use starts::start;

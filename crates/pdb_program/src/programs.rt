@@ -13,7 +13,7 @@ ghost use Rattle.pdb_program.specs.Programs.{AskToKeepNothing, EndsFor, RunsOn, 
 ghost use Rattle.pdb_program.specs.Steps.{SaysHeadline, SaysParts};
 ghost use Rattle.pdb_program.specs.Refusals.{Refuses};
 
-use crate::hosts::Host;
+use crate::hosts::RunHost;
 use crate::refusals::explain;
 use byte_io::shelf::Shelf;
 use byte_io::sinks::Sink;
@@ -73,14 +73,14 @@ pub fn run<H: Threads + Wait + Sync, S: Shelf, R: Source, W: Sink, E: Write, G: 
         (R.remaining reader.new) (W.output out.new))
         (E.contents err.old) (E.contents err.new) result }
 {
-    let host = Host { rt, alloc, gate };
+    let host = RunHost { rt, alloc, gate };
     let mut io = BorrowedIo { shelf, reader, out };
     run_on(&host, words, &mut io, err)
 }
 
 /// The same on any shelf, reader and output.
 pub(crate) fn run_on<H: Threads + Wait + Sync, I: Io, E: Write, G: Gate + Sync>(
-    host: &Host<'_, H, G>,
+    host: &RunHost<'_, H, G>,
     words: Vec<String>,
     io: &mut I,
     err: &mut E,
@@ -98,7 +98,7 @@ pub(crate) fn run_on<H: Threads + Wait + Sync, I: Io, E: Write, G: Gate + Sync>(
 
 /// Does what the words ask for.
 fn answer<H: Threads + Wait + Sync, I: Io, E: Write, G: Gate + Sync>(
-    host: &Host<'_, H, G>,
+    host: &RunHost<'_, H, G>,
     words: &[String],
     io: &mut I,
     err: &mut E,
@@ -120,9 +120,9 @@ fn answer<H: Threads + Wait + Sync, I: Io, E: Write, G: Gate + Sync>(
         Ok(Request::TableCheck(check)) => run_table(&check, &host.workers(check.workers), io),
         Ok(Request::LogCheck(check)) => run_log_check(&check, &host.workers(check.workers), io),
         Ok(Request::MakeTable(asked)) => run_make_table(&asked, &host.workers(asked.workers), io),
-        Ok(Request::Search(search)) => run_solve(&search, &host.workers(search.workers), io),
+        Ok(Request::Solve(search)) => run_solve(&search, &host.workers(search.workers), io),
         Ok(Request::Prove(prove)) => run_prove(&prove, &host.workers(prove.workers), io),
-        Ok(Request::Parts(parts)) => run_parts(host.alloc, &parts, io, err),
+        Ok(Request::JoinParts(parts)) => run_parts(host.alloc, &parts, io, err),
         Err(fault) => explain(fault, io, err),
     }
 }

@@ -15,7 +15,7 @@ ghost use Rattle.pdb_program.specs.PartLines.{ArePartLinesTrue};
 ghost use Rattle.pdb_program.specs.Programs.{IsNumberOfStatus, RunsOn};
 ghost use Rattle.pdb_program.specs.Refusals.{AppendsWholeOrFront};
 
-use crate::hosts::{ArgumentFault, Call};
+use crate::hosts::{ArgumentFault, ProgramCall};
 use crate::programs::run_on;
 use crate::refusals::tell;
 use byte_io::shelf::Shelf;
@@ -32,7 +32,7 @@ use work_run::Gate;
 /// A run on the arguments behind the first, which is the program's own name, or what is said where they can't be taken:
 /// for want of memory, or since one is no UTF-8 text, which is named by its place. Then the shelf and the reader stay as they are.
 pub fn start<H: Threads + Wait + Sync, S: Shelf, R: Source, W: Sink, E: Write, G: Gate + Sync>(
-    call: Call<'_, H, G>,
+    call: ProgramCall<'_, H, G>,
     shelf: &mut S,
     reader: &mut R,
     out: &mut W,
@@ -73,7 +73,7 @@ pub fn start<H: Threads + Wait + Sync, S: Shelf, R: Source, W: Sink, E: Write, G
     ensures untouched { OnErr call.entry.arguments
         ((shelf.new ≡ shelf.old) × (reader.new ≡ reader.old)) }
 {
-    let Call { host, arguments } = call;
+    let ProgramCall { host, arguments } = call;
     match arguments {
         Ok(all) => {
             let mut io = BorrowedIo { shelf, reader, out };

@@ -14,7 +14,7 @@ pub fn checked_files<'a>(alloc: Global, asked: &Request<'a>) -> Result<Vec<&'a s
         Request::TableCheck(check) => (None, Some(check.file)),
         Request::LogCheck(check) => (Some(&check.tables), Some(check.log)),
         Request::MakeTable(making) => (None, Some(making.out)),
-        Request::Search(search) => (Some(&search.tables), Some(search.out)),
+        Request::Solve(search) => (Some(&search.tables), Some(search.out)),
         Request::Prove(prove) => (Some(&prove.tables), None),
         _ => (None, None),
     };

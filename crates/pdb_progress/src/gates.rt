@@ -2,7 +2,7 @@
 
 use crate::bounds::Bounds;
 use crate::files::FileShare;
-use crate::makings::{Making, Stage};
+use crate::makings::{Stage, TableProgress};
 use crate::paces::Pace;
 use crate::shares::Share;
 use crate::times::is_time;
@@ -110,9 +110,9 @@ impl<'a, 'n, R: Clock + Eprint> Progress<'a, 'n, R> {
 
     /// How far the table is made, to tell now, where it is time to tell that and no other worker does. What is made has the last
     /// name.
-    fn making_due(&self, stage: Stage, done: u64, all: u64) -> Option<Making<'n>> {
+    fn making_due(&self, stage: Stage, done: u64, all: u64) -> Option<TableProgress<'n>> {
         self.due()?;
-        Some(Making {
+        Some(TableProgress {
             file: self.files.last().copied(),
             stage,
             share: Share::of(done, all)?,

@@ -16,7 +16,7 @@ pub(crate) enum Stage {
 
 /// How far a table is made. It is shown as the line that tells it.
 #[derive(Clone, Copy, Debug, PartialEq, Eq)]
-pub(crate) struct Making<'a> {
+pub(crate) struct TableProgress<'a> {
     /// The name under which it is to be kept, where that is known.
     pub(crate) file: Option<&'a str>,
     pub(crate) stage: Stage,
@@ -24,7 +24,7 @@ pub(crate) struct Making<'a> {
     pub(crate) share: Share,
 }
 
-impl Display for Making<'_> {
+impl Display for TableProgress<'_> {
     fn fmt<W: fmt::Write>(&self, f: &mut Formatter<W>) -> fmt::Result {
         f.write_str("pdb_cli: ")?;
         if let Some(file) = self.file {

@@ -1,21 +1,16 @@
 -- How a run of claims ends that are ready.
-use Rattle.std.proofs.Common.{◌≡◌, ◌≢◌, ◌∙◌, ◌++◌, ap, ℕ, Bool, Result, List, [], ◌∷◌, None, Some, Ok, Err, IfOk, OnErr, inl, inr, refl, subst, sym}
+use Rattle.std.proofs.Common.{◌≡◌, ◌≢◌, ◌∙◌, ap, Bool, Result, List, [], None, Some, Ok, Err, IfOk, OnErr, inl, inr, refl, subst}
 use Rattle.std.specs.declared.alloc.AllocError.{AllocError}
-use Rattle.std.proofs.lemmas.Grind.{flat_map-append}
 use Rattle.std.proofs.lemmas.List.{append-nil}
 use Rattle.set_sum.specs.Bundles.{ShownBundle}
 use Rattle.claim_text.specs.Claims.{ShownClaim}
-use Rattle.claim_text.specs.Texts.{AreClaims, IsFirstNoClaim}
-use Rattle.claim_text.specs.declared.faults.ClaimsFault.{ClaimsFault}
-use Rattle.claim_text.specs.declared.faults.ClaimsFault.TheVariants as claims_fault
-use Rattle.byte_io.specs.Shelf.{Bytes}
 use Rattle.byte_io.specs.declared.streams.WriteFault.{WriteFault}
 use Rattle.pdb_request.specs.Asked.{ProveArguments}
 use Rattle.pdb_run.specs.Answers.{IsAnswerBy, IsReplyOf}
-use Rattle.pdb_run.specs.declared.answers.Answer.{Answer}
+use Rattle.pdb_run.specs.declared.answers.CommandAnswer.{CommandAnswer}
 use Rattle.pdb_run.specs.Io.{HasRead, IsWritten}
 use Rattle.pdb_run.specs.Runs.{World, replied, status_of_reply}
-use Rattle.pdb_run.specs.Writing.{digest_line, digests_of}
+use Rattle.pdb_run.specs.Writing.{digests_of}
 use Rattle.pdb_run.specs.declared.statuses.Status.{Status}
 use Rattle.pdb_run.specs.declared.statuses.Status.TheVariants.{Fault}
 use Rattle.pdb_verdict.specs.declared.verdicts.Fault as verdict
@@ -24,24 +19,11 @@ use Rattle.pdb_verdict.specs.declared.verdicts.Verdict.{Verdict}
 use Rattle.pdb_verdict.proofs.RefusalLemmas.{cause_settled}
 use Rattle.pdb_prove.specs.Prove.{AreReady, ClaimsFiles, IsClaimsReply, IsUnready, ProveEnds, TakesMemoryForClaims, answered, budget_of}
 use Rattle.pdb_prove.specs.Prove.{digested_files, in_order, prove_inputs, reply_to_claims, unready}
-use Rattle.pdb_prove.specs.Steps.{AreAllTold, AreCut, IsCauseForClaims, of_claims}
+use Rattle.pdb_prove.specs.Steps.{AreAllTold, AreCut, IsCauseForClaims}
 use Rattle.pdb_prove.proofs.TellingLemmas.{written_behind}
 
--- the digest lines of tables, and that of a text behind them
-pub digests_behind : (tables : List Bytes) (text : Bytes) → digests_of tables ++ digest_line text ≡ digests_of (tables ++ text ∷ [])
-digests_behind tables text =
-    ap (λ (line : Bytes). digests_of tables ++ line) (sym (append-nil (digest_line text))) ∙ sym (flat_map-append digest_line tables (text ∷ []))
-
--- where the text gives no claims, nothing is searched
-pub text_cause : {A : Type 0} (fold : Bool) (files : ClaimsFiles) (r : Result A ClaimsFault) (fault : ClaimsFault) → r ≡ Err fault
-    → ((line : ℕ) → r ≡ Err (claims_fault.Q1 line) → IsFirstNoClaim files.claims line)
-    → (r ≡ Err claims_fault.Memory → (claims : List ShownClaim) × AreClaims files.claims claims)
-    → IsCauseForClaims fold files (of_claims fault)
-text_cause fold files r (claims_fault.Q1 line) is named memory = inl (line, named line is, refl)
-text_cause fold files r claims_fault.Memory is named memory = memory is
-
 -- what is told of this tells what comes of the claims, or memory is wanted, where it is taken
-pub fault_told : (arguments : ProveArguments) (files : ClaimsFiles) (fault : verdict.Fault) (told : Result Answer AllocError)
+pub fault_told : (arguments : ProveArguments) (files : ClaimsFiles) (fault : verdict.Fault) (told : Result CommandAnswer AllocError)
     → IsCauseForClaims arguments.fold files fault
     → IfOk told (λ t. IsReplyOf t (reply_to_claims files (unready fault)) × (◌≢◌ {A = Result Verdict verdict.Fault} (Err fault) (Err Memory)))
     → OnErr told (◌≡◌ {A = Result Verdict verdict.Fault} (Err fault) (Err Memory))

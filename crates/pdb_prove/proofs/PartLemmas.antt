@@ -8,11 +8,11 @@ use Rattle.claim_text.specs.Claims.{ShownAsks, ShownClaim}
 use Rattle.claim_text.specs.Lines.{Told}
 use Rattle.pdb_prove.specs.Answers.{IsFoundOf, IsToldOf, told_of}
 use Rattle.pdb_prove.specs.Laws.{IsTrueOfParts}
-use Rattle.pdb_prove.specs.declared.answers.Found.{Found}
-use Rattle.pdb_prove.specs.declared.answers.Found.TheVariants.{Bound, Optimum, Part, Refused, Shorter, Shortest}
+use Rattle.pdb_prove.specs.declared.answers.Finding.{Finding}
+use Rattle.pdb_prove.specs.declared.answers.Finding.TheVariants.{Bound, Optimum, Part, Refused, Shorter, Shortest}
 
 module _ (guide : ShownGuide) (budget : ℕ) (b : List ℕ) where
-  part_true : (asks : ShownAsks) (found : Found) → IsFoundOf guide budget b asks found → IsTrueOfParts (told_of b asks found)
+  part_true : (asks : ShownAsks) (found : Finding) → IsFoundOf guide budget b asks found → IsTrueOfParts (told_of b asks found)
   part_true (claims.part r p) Part is = is.1.0
   part_true claims.shortest Part is = absurd is
   part_true (claims.moves text) Part is = absurd is

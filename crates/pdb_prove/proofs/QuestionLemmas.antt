@@ -7,10 +7,10 @@ use Rattle.claim_text.specs.Claims as claims
 use Rattle.claim_text.specs.Claims.{ShownAsks}
 use Rattle.pdb_prove.specs.Answers.{IsBoundFor, IsFoundOf, IsOptimumFor, IsPartFor, IsShortestFor}
 use Rattle.pdb_prove.specs.Steps.{IsQuestionOf}
-use Rattle.pdb_prove.specs.declared.answers.Found.{Found}
+use Rattle.pdb_prove.specs.declared.answers.Finding.{Finding}
 use Rattle.pdb_prove.specs.declared.answers.Question.TheVariants.{Bound, Moves, Part, Shortest}
 
-module _ (guide : ShownGuide) (budget : ℕ) (b : List ℕ) (found : Found) where
+module _ (guide : ShownGuide) (budget : ℕ) (b : List ℕ) (found : Finding) where
   -- a shortest solution is asked for
   pub shortest_for : (asks : ShownAsks) → IsQuestionOf b asks Shortest → IsShortestFor guide budget b found → IsFoundOf guide budget b asks found
   shortest_for claims.shortest is found_for = found_for

@@ -8,8 +8,8 @@ use Rattle.claim_text.specs.Claims.{ShownAsks, ShownClaim}
 use Rattle.pdb_verdict.specs.declared.verdicts.Fault.TheVariants.{K1, K2}
 use Rattle.pdb_prove.specs.Answers.{IsFoundFor, IsFoundOf, IsRefuted, IsRefutedPart}
 use Rattle.pdb_prove.specs.Steps.{is_spent}
-use Rattle.pdb_prove.specs.declared.answers.Found.{Found}
-use Rattle.pdb_prove.specs.declared.answers.Found.TheVariants.{Bound, Optimum, Part, Refused, Shorter, Shortest}
+use Rattle.pdb_prove.specs.declared.answers.Finding.{Finding}
+use Rattle.pdb_prove.specs.declared.answers.Finding.TheVariants.{Bound, Optimum, Part, Refused, Shorter, Shortest}
 
 spent_not : true ≡ false → ⊥
 spent_not e = cc
@@ -22,7 +22,7 @@ module _ (guide : ShownGuide) (few budget : ℕ) (less : few ≤ budget) where
   part_within b r p is = (is.0, (is.1.0, is.1.1, omega (arith, is.1.2, less)))
 
   -- what is found for a claim within few boards, and isn't that these are spent, is found within more
-  pub soon_enough : (b : List ℕ) (asks : ShownAsks) (found : Found) → is_spent found ≡ false → IsFoundOf guide few b asks found
+  pub soon_enough : (b : List ℕ) (asks : ShownAsks) (found : Finding) → is_spent found ≡ false → IsFoundOf guide few b asks found
       → IsFoundOf guide budget b asks found
   soon_enough b claims.shortest (Shortest n letters) settled is = is
   soon_enough b claims.shortest (Refused K2) settled is = elim is [ inl odd ↦ inl odd | inr beyond ↦ inr beyond ]
@@ -43,7 +43,7 @@ module _ (guide : ShownGuide) (few budget : ℕ) (less : few ≤ budget) where
   soon_enough b asks _ settled is = is
 
 -- the same by a guide of the bundle
-pub found_enough : (v : ShownBundle) (few budget : ℕ) → few ≤ budget → (claim : ShownClaim) (found : Found) → is_spent found ≡ false
+pub found_enough : (v : ShownBundle) (few budget : ℕ) → few ≤ budget → (claim : ShownClaim) (found : Finding) → is_spent found ≡ false
     → IsFoundFor v few claim found → IsFoundFor v budget claim found
 found_enough v few budget less claim found settled is = record {
   guide = is.guide;

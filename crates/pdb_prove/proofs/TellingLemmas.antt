@@ -22,8 +22,8 @@ use Rattle.pdb_run.specs.Io.{IsWritten}
 use Rattle.pdb_run.specs.Runs.{World}
 use Rattle.pdb_prove.specs.Answers.{IsFoundFor, IsFoundOf, IsToldOf, is_found_yes, is_yes, told_of}
 use Rattle.pdb_prove.specs.Steps.{AreAllTold, AreCut}
-use Rattle.pdb_prove.specs.declared.answers.Found.{Found}
-use Rattle.pdb_prove.specs.declared.answers.Found.TheVariants.{Bound, Optimum, Part, Refused, Shorter, Shortest}
+use Rattle.pdb_prove.specs.declared.answers.Finding.{Finding}
+use Rattle.pdb_prove.specs.declared.answers.Finding.TheVariants.{Bound, Optimum, Part, Refused, Shorter, Shortest}
 
 abbrev Written : Type 0
 Written = Result (Unit {0}) WriteFault
@@ -120,7 +120,7 @@ module _ {v : ShownBundle} {budget : ℕ} where
 -- ---- what is found for one claim
 
 -- it is told as the yes or the no that it is
-yes_told : (guide : ShownGuide) (budget : ℕ) (b : List ℕ) (asks : ShownAsks) (found : Found) → IsFoundOf guide budget b asks found
+yes_told : (guide : ShownGuide) (budget : ℕ) (b : List ℕ) (asks : ShownAsks) (found : Finding) → IsFoundOf guide budget b asks found
     → is_yes (told_of b asks found) ≡ is_found_yes found
 yes_told guide budget b claims.shortest Bound is = absurd is
 yes_told guide budget b (claims.part r p) Bound is = absurd is
@@ -148,14 +148,14 @@ yes_told guide budget b (claims.bound r) (Refused refused) is = refl
 yes_told guide budget b (claims.part r p) (Refused refused) is = refl
 
 -- its line was written whole
-pub found_told : {v : ShownBundle} {budget : ℕ} {a b : World} (claim : ShownClaim) (found : Found) → IsFoundFor v budget claim found
+pub found_told : {v : ShownBundle} {budget : ℕ} {a b : World} (claim : ShownClaim) (found : Finding) → IsFoundFor v budget claim found
     → IsWritten (told_line (told_of claim.board claim.asks found)) a b (Ok tt) → AreAllTold v budget a b (claim ∷ []) (is_found_yes found)
 found_told {v} {budget} claim found is written =
     rw (← yes_told is.guide budget claim.board claim.asks found is.is_found)
     (one_told (record { found = found; is_found = is; is_told = refl }) written)
 
 -- or not
-pub found_cut : {v : ShownBundle} {budget : ℕ} {a b : World} (claim : ShownClaim) (found : Found) → IsFoundFor v budget claim found
+pub found_cut : {v : ShownBundle} {budget : ℕ} {a b : World} (claim : ShownClaim) (found : Finding) → IsFoundFor v budget claim found
     → {fault : WriteFault} → IsWritten (told_line (told_of claim.board claim.asks found)) a b (Err fault) → AreCut v budget a b (claim ∷ [])
 found_cut claim found is written = one_cut (record { found = found; is_found = is; is_told = refl }) written
 

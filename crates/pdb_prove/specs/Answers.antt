@@ -18,8 +18,8 @@ use Rattle.byte_io.specs.Shelf.{Bytes}
 use Rattle.pdb_verdict.specs.Lines.{line_of_fault}
 use Rattle.pdb_verdict.specs.declared.verdicts.Fault.{Fault}
 use Rattle.pdb_verdict.specs.declared.verdicts.Fault.TheVariants.{K1, K2, Moves}
-use Rattle.pdb_prove.specs.declared.answers.Found.{Found}
-use Rattle.pdb_prove.specs.declared.answers.Found.TheVariants.{Bound, Optimum, Part, Refused, Shorter, Shortest}
+use Rattle.pdb_prove.specs.declared.answers.Finding.{Finding}
+use Rattle.pdb_prove.specs.declared.answers.Finding.TheVariants.{Bound, Optimum, Part, Refused, Shorter, Shortest}
 
 -- ---- what is found for a claim
 
@@ -30,7 +30,7 @@ module _ (guide : ShownGuide) (budget : ℕ) where
 
   -- for a board alone: a shortest solution; K1 where the budget is spent; K2 where the order of the numbers hasn't the blank's
   -- parity, or no solution has fewer than 254 moves
-  abbrev pub IsShortestFor : List ℕ → Found → Type 0
+  abbrev pub IsShortestFor : List ℕ → Finding → Type 0
   IsShortestFor b (Shortest n letters) = Solves b letters.items n × IsBounded b n
   IsShortestFor b (Refused K1) = (bound : ℕ) × IsDeepened guide b budget (deepened.Spent bound)
   IsShortestFor b (Refused K2) = (¬ HasTheBlanksParity b) ⊎ IsDeepened guide b budget deepened.Beyond
@@ -39,7 +39,7 @@ module _ (guide : ShownGuide) (budget : ℕ) where
   -- for moves that are said to be a shortest solution: so they are; or a shorter one; or why the moves are refused; K1 where the
   -- budget is spent; K2 where they are more than 255, and no solution has fewer
   -- than 255
-  abbrev pub IsOptimumFor : List ℕ → Bytes → Found → Type 0
+  abbrev pub IsOptimumFor : List ℕ → Bytes → Finding → Type 0
   IsOptimumFor b moves (Optimum n) = Solves b moves n × (n ≤ 255) × IsRefuted b n
   IsOptimumFor b moves (Shorter letters) =
       (n : ℕ) × Solves b moves n × IsAnswer guide b (min n 255) budget (search.Solved letters)
@@ -50,7 +50,7 @@ module _ (guide : ShownGuide) (budget : ℕ) where
 
   -- for a bound: it is one; or a solution of fewer moves; K1 where the budget is spent; K2 where the order of the numbers hasn't
   -- the blank's parity
-  abbrev pub IsBoundFor : List ℕ → ℕ → Found → Type 0
+  abbrev pub IsBoundFor : List ℕ → ℕ → Finding → Type 0
   IsBoundFor b r Bound = IsRefuted b r
   IsBoundFor b r (Shorter letters) = IsAnswer guide b r budget (search.Solved letters)
   IsBoundFor b r (Refused K1) = IsAnswer guide b r budget search.Spent
@@ -63,7 +63,7 @@ module _ (guide : ShownGuide) (budget : ℕ) where
 
   -- for a part of a bound: it holds; or a solution of fewer moves, of whatever part; K1 where the budget is spent; K2 where the
   -- order of the numbers hasn't the blank's parity
-  abbrev pub IsPartFor : List ℕ → ℕ → ShownPart → Found → Type 0
+  abbrev pub IsPartFor : List ℕ → ℕ → ShownPart → Finding → Type 0
   IsPartFor b r p Part = IsRefutedPart b r p
   IsPartFor b r p (Shorter letters) = IsAnswerOfPart guide p b r budget (search.Solved letters)
   IsPartFor b r p (Refused K1) = IsAnswerOfPart guide p b r budget search.Spent
@@ -71,18 +71,18 @@ module _ (guide : ShownGuide) (budget : ℕ) where
   IsPartFor b r p _ = ⊥
 
   -- for what a claim asks of its board
-  abbrev pub IsFoundOf : List ℕ → ShownAsks → Found → Type 0
+  abbrev pub IsFoundOf : List ℕ → ShownAsks → Finding → Type 0
   IsFoundOf b claims.shortest found = IsShortestFor b found
   IsFoundOf b (claims.moves text) found = IsOptimumFor b text found
   IsFoundOf b (claims.bound r) found = IsBoundFor b r found
   IsFoundOf b (claims.part r p) found = IsPartFor b r p found
 
   -- for a claim
-  abbrev pub IsFoundBy : ShownClaim → Found → Type 0
+  abbrev pub IsFoundBy : ShownClaim → Finding → Type 0
   IsFoundBy claim found = IsFoundOf claim.board claim.asks found
 
 -- for a claim, by a search that this bundle leads, and some automaton for boards of its side
-pub record IsFoundFor (v : ShownBundle) (budget : ℕ) (claim : ShownClaim) (found : Found) : Type 0 where
+pub record IsFoundFor (v : ShownBundle) (budget : ℕ) (claim : ShownClaim) (found : Finding) : Type 0 where
   pub guide : ShownGuide
   pub is_guide : IsGuide guide
   pub leads : guide.bundle ≡ v
@@ -95,7 +95,7 @@ abbrev pub words_of : Fault → Bytes
 words_of refused = take (length (line_of_fault refused) - 1) (line_of_fault refused)
 
 -- what is told of a board, of which a claim asks this, where this is found
-abbrev pub told_of : List ℕ → ShownAsks → Found → Told
+abbrev pub told_of : List ℕ → ShownAsks → Finding → Told
 told_of b (claims.bound r) Bound = line.bounded r b
 told_of b (claims.part r p) Part = line.part_bounded p r b
 told_of b (claims.moves text) (Optimum n) = line.optimal n b text
@@ -106,7 +106,7 @@ told_of b asks _ = line.refused [] (record { board = b; asks = asks })
 
 -- this is told of the claim, over the bundle and for the budget
 pub record IsToldOf (v : ShownBundle) (budget : ℕ) (claim : ShownClaim) (told : Told) : Type 0 where
-  pub found : Found
+  pub found : Finding
   pub is_found : IsFoundFor v budget claim found
   pub is_told : told ≡ told_of claim.board claim.asks found
 
@@ -123,7 +123,7 @@ abbrev pub are_yes : List Told → Bool
 are_yes told = list_all is_yes told
 
 -- what is found is a yes to its claim
-abbrev pub is_found_yes : Found → Bool
+abbrev pub is_found_yes : Finding → Bool
 is_found_yes Bound = true
 is_found_yes Part = true
 is_found_yes (Optimum n) = true

@@ -1,5 +1,5 @@
 -- What the steps of a run of claims say.
-use Rattle.std.specs.Prelude.{◌≡◌, ℕ, ◌*◌, ◌<◌, ◌++◌, Bool, true, false, List, length, slice_index_or, Option, IfSome, Result, Ok, Err, MatchResult}
+use Rattle.std.specs.Prelude.{◌≡◌, ℕ, ◌*◌, ◌<◌, ◌++◌, Bool, true, false, List, length, slice_index_or, Option, IfSome, Result, Ok, Err, MatchResult, Vec}
 use Rattle.std.specs.List.{AllZip, sum_by}
 use Rattle.puz_board.specs.MovesTexts.{Solves}
 use Rattle.pat_place.specs.Ranks.{falling_factorial}
@@ -12,8 +12,9 @@ use Rattle.claim_text.specs.Texts.{AreClaims}
 use Rattle.claim_text.specs.declared.claims.Claim.{Claim}
 use Rattle.claim_text.specs.declared.faults.ClaimsFault.{ClaimsFault}
 use Rattle.claim_text.specs.declared.faults.ClaimsFault.TheVariants as claims_fault
-use Rattle.byte_io.specs.Shelf.{Bytes}
 use Rattle.byte_io.specs.declared.streams.WriteFault.{WriteFault}
+use Rattle.pdb_request.specs.declared.requests.Prove.{Prove}
+use Rattle.pdb_run.specs.Answers.{all_bytes}
 use Rattle.pdb_run.specs.Io.{IsWritten}
 use Rattle.pdb_run.specs.Runs.{World}
 use Rattle.pdb_verdict.specs.Refusals.{IsCauseBy}
@@ -21,14 +22,14 @@ use Rattle.pdb_verdict.specs.declared.verdicts.Fault.{Fault}
 use Rattle.pdb_verdict.specs.declared.verdicts.Fault.TheVariants as fault
 use Rattle.pdb_prove.specs.Answers.{IsFoundFor, IsToldOf, are_yes}
 use Rattle.pdb_prove.specs.Prove.{ClaimsFiles, IsUnready, told_lines}
-use Rattle.pdb_prove.specs.declared.answers.Found.{Found}
-use Rattle.pdb_prove.specs.declared.answers.Found.TheVariants.{Refused}
+use Rattle.pdb_prove.specs.declared.answers.Finding.{Finding}
+use Rattle.pdb_prove.specs.declared.answers.Finding.TheVariants.{Refused}
 use Rattle.pdb_prove.specs.declared.answers.Question.{Question}
 use Rattle.pdb_prove.specs.declared.answers.Question.TheVariants.{Bound, Moves, Part, Shortest}
 
--- these three
-abbrev pub files_of : Bytes → Bytes → List Bytes → ClaimsFiles
-files_of claims sets tables = record { claims = claims; sets = sets; tables = tables }
+-- the files that were read for claims
+abbrev pub files_read : {A : Type 0} → Prove (Vec ℕ A) (Vec ℕ A) → ClaimsFiles
+files_read prove = record { claims = prove.claims.items; sets = prove.sets.items; tables = all_bytes prove.tables.items }
 
 -- why nothing is searched, or want of memory, which comes of a text of claims alone
 abbrev pub IsCauseForClaims : Bool → ClaimsFiles → Fault → Type 0
@@ -56,20 +57,20 @@ abbrev pub IsAskedOf : ShownClaim → Question → Type 0
 IsAskedOf claim question = IsQuestionOf claim.board claim.asks question
 
 -- what is found is that the budget is spent
-abbrev pub is_spent : Found → Bool
+abbrev pub is_spent : Finding → Bool
 is_spent (Refused fault.K1) = true
 is_spent _ = false
 
 -- ---- the claims of a batch
 
 -- this is found for the claim with the number
-abbrev pub IsFoundAt : ShownBundle → ℕ → List Claim → ℕ → Found → Type 0
+abbrev pub IsFoundAt : ShownBundle → ℕ → List Claim → ℕ → Finding → Type 0
 IsFoundAt v budget all number found = (other : Claim) → IsFoundFor v budget (claim_shown (slice_index_or all number other)) found
 
 -- what was found soon for some of the claims, each in its place
-abbrev pub AreFoundSoon : ShownBundle → ℕ → List Claim → List (Option Found) → Type 0
+abbrev pub AreFoundSoon : ShownBundle → ℕ → List Claim → List (Option Finding) → Type 0
 AreFoundSoon v budget all soon =
-    (number : ℕ) (other : Option Found) → number < length soon → IfSome (slice_index_or soon number other) (IsFoundAt v budget all number)
+    (number : ℕ) (other : Option Finding) → number < length soon → IfSome (slice_index_or soon number other) (IsFoundAt v budget all number)
 
 -- ---- the lines of claims, one after the other
 

@@ -23,7 +23,7 @@ use work_run::{Gate, Workers};
 
 /// What is found for a claim.
 #[derive(Drop)]
-pub enum Found {
+pub enum Finding {
     /// No solution has fewer moves than the bound of the claim.
     Bound,
     /// The part of the bound of the claim holds: the least solution of fewer moves isn't of it.
@@ -38,14 +38,14 @@ pub enum Found {
     Refused(Fault),
 }
 
-impl Found {
+impl Finding {
     /// Whether it is a yes to the claim.
     pub(crate) fn is_yes(&self) -> bool
         ensures { result ≡ is_found_yes self.now }
     {
         matches!(
             self,
-            Found::Bound | Found::Part | Found::Optimum(_) | Found::Shortest(..)
+            Finding::Bound | Finding::Part | Finding::Optimum(_) | Finding::Shortest(..)
         )
     }
 
@@ -53,7 +53,7 @@ impl Found {
     pub(crate) fn is_spent(&self) -> bool
         ensures { result ≡ is_spent self.now }
     {
-        matches!(self, Found::Refused(Fault::K1))
+        matches!(self, Finding::Refused(Fault::K1))
     }
 }
 
@@ -61,7 +61,7 @@ impl Found {
 pub(crate) const FEW_BOARDS: u64 = 1 << 16;
 
 /// What is found for a claim by one thread that expands few boards, where these are enough.
-pub(crate) fn answer_soon(guide: &Guide<'_>, claim: &Claim<'_>, budget: u64) -> Option<Found>
+pub(crate) fn answer_soon(guide: &Guide<'_>, claim: &Claim<'_>, budget: u64) -> Option<Finding>
     requires { side_of claim.now.board ≡ guide.now.bundle.side }
     ensures { IfSome result (IsFoundBy guide.now budget (claim_shown claim.now)) }
 {
@@ -73,7 +73,7 @@ pub(crate) fn answer_soon(guide: &Guide<'_>, claim: &Claim<'_>, budget: u64) -> 
 }
 
 /// What is found for a claim by one thread that expands at most so many boards.
-fn answer_alone(guide: &Guide<'_>, claim: &Claim<'_>, budget: u64) -> Found
+fn answer_alone(guide: &Guide<'_>, claim: &Claim<'_>, budget: u64) -> Finding
     requires { side_of claim.now.board ≡ guide.now.bundle.side }
     ensures { IsFoundBy guide.now budget (claim_shown claim.now) result }
 {
@@ -85,7 +85,7 @@ fn answer_alone(guide: &Guide<'_>, claim: &Claim<'_>, budget: u64) -> Found
         }
         Ok(Question::Bound(bound)) => found_bound(refute(guide, board, bound, budget)),
         Ok(Question::Part(part)) => found_part(refute_part(guide, board, &part, budget)),
-        Err(refused) => Found::Refused(refused),
+        Err(refused) => Finding::Refused(refused),
     }
 }
 
@@ -95,7 +95,7 @@ pub(crate) fn answer_by<R: Threads + Sync, G: Gate + Sync>(
     claim: &Claim<'_>,
     budget: u64,
     workers: &Workers<'_, R, G>,
-) -> Found
+) -> Finding
     requires { side_of claim.now.board ≡ guide.now.bundle.side }
     ensures { IsFoundBy guide.now budget (claim_shown claim.now) result }
 {
@@ -114,7 +114,7 @@ pub(crate) fn answer_by<R: Threads + Sync, G: Gate + Sync>(
         Ok(Question::Part(part)) => {
             found_part(refute_part_together(guide, board, &part, budget, workers))
         }
-        Err(refused) => Found::Refused(refused),
+        Err(refused) => Finding::Refused(refused),
     }
 }
 
@@ -135,7 +135,7 @@ enum Question {
 fn asked_of(claim: &Claim<'_>) -> Result<Question, Fault>
     ensures ok { IfOk result (IsAskedOf (claim_shown claim.now)) }
     ensures err { IfErr result (λ refused. (guide : ShownGuide) (budget : ℕ)
-        → IsFoundBy guide budget (claim_shown claim.now) (Found.Refused refused)) }
+        → IsFoundBy guide budget (claim_shown claim.now) (Finding.Refused refused)) }
 {
     match claim.asks {
         Asks::Moves(moves) => match replay(&claim.board, moves) {
@@ -159,56 +159,56 @@ fn bound_of(count: u16) -> u8
 }
 
 /// What is found where a shortest solution of a board is asked for and a search answers this.
-fn found_shortest(board: &Board, deepened: Deepened) -> Found
+fn found_shortest(board: &Board, deepened: Deepened) -> Finding
     requires { (guide : ShownGuide) × (budget : ℕ) × IsDeepened guide board.now budget deepened }
     ensures { (guide : ShownGuide) (budget : ℕ) → IsDeepened guide board.now budget deepened
         → IsShortestFor guide budget board.now result }
 {
     match deepened {
         Deepened::Shortest(letters) => match replay(board, letters.as_slice()) {
-            Ok(count) => Found::Shortest(count, letters),
+            Ok(count) => Finding::Shortest(count, letters),
             Err(_) => unreachable!(),
         },
-        Deepened::Spent(_) => Found::Refused(Fault::K1),
-        Deepened::Beyond => Found::Refused(Fault::K2),
+        Deepened::Spent(_) => Finding::Refused(Fault::K1),
+        Deepened::Beyond => Finding::Refused(Fault::K2),
     }
 }
 
 /// What is found where so many moves solve a board and a search for a shorter solution answers this.
-fn found_moves(count: u16, answer: Answer) -> Found
+fn found_moves(count: u16, answer: Answer) -> Finding
     ensures { (guide : ShownGuide) (budget : ℕ) (b moves : List ℕ) → Solves b moves count
         → IsAnswer guide b (min count 255) budget answer
         → IsOptimumFor guide budget b moves result }
 {
     match answer {
-        Answer::Refuted(_) if count <= 255 => Found::Optimum(count),
-        Answer::Refuted(_) => Found::Refused(Fault::K2),
-        Answer::Solved(letters) => Found::Shorter(letters),
-        Answer::Spent => Found::Refused(Fault::K1),
+        Answer::Refuted(_) if count <= 255 => Finding::Optimum(count),
+        Answer::Refuted(_) => Finding::Refused(Fault::K2),
+        Answer::Solved(letters) => Finding::Shorter(letters),
+        Answer::Spent => Finding::Refused(Fault::K1),
     }
 }
 
 /// What is found where a bound is claimed and a search for a solution of fewer moves answers this.
-fn found_bound(answer: Answer) -> Found
+fn found_bound(answer: Answer) -> Finding
     ensures { (guide : ShownGuide) (budget : ℕ) (b : List ℕ) (r : ℕ)
         → IsAnswer guide b r budget answer → IsBoundFor guide budget b r result }
 {
     match answer {
-        Answer::Refuted(_) => Found::Bound,
-        Answer::Solved(letters) => Found::Shorter(letters),
-        Answer::Spent => Found::Refused(Fault::K1),
+        Answer::Refuted(_) => Finding::Bound,
+        Answer::Solved(letters) => Finding::Shorter(letters),
+        Answer::Spent => Finding::Refused(Fault::K1),
     }
 }
 
 /// What is found where a part of a bound is claimed and the search of the part answers this.
-fn found_part(answer: Answer) -> Found
+fn found_part(answer: Answer) -> Finding
     ensures { (guide : ShownGuide) (budget : ℕ) (b : List ℕ) (r : ℕ) (p : ShownPart)
         → IsAnswerOfPart guide p b r budget answer → IsPartFor guide budget b r p result }
 {
     match answer {
-        Answer::Refuted(_) => Found::Part,
-        Answer::Solved(letters) => Found::Shorter(letters),
-        Answer::Spent => Found::Refused(Fault::K1),
+        Answer::Refuted(_) => Finding::Part,
+        Answer::Solved(letters) => Finding::Shorter(letters),
+        Answer::Spent => Finding::Refused(Fault::K1),
     }
 }
 

@@ -10,7 +10,7 @@ ghost use Rattle.claim_text.specs.declared.claims.Claim.{Claim};
 ghost use Rattle.pdb_prove.specs.Answers.{IsFoundFor};
 ghost use Rattle.pdb_prove.specs.Steps.{AreFoundSoon, AreTold};
 
-use crate::answers::{Found, answer_soon};
+use crate::answers::{Finding, answer_soon};
 use crate::help::Help;
 use crate::ready::Ready;
 use crate::telling::line_on;
@@ -44,7 +44,7 @@ impl<'a> Task for Batch<'a> {
     ghost use Rattle.std.specs.Prelude.{IfSome, length};
     ghost use Rattle.pdb_prove.specs.Steps.{IsFoundAt};
 
-    type Outcome = Option<Found>;
+    type Outcome = Option<Finding>;
 
     ghost jobs = { λ batch. length batch.claims.now };
 
@@ -55,7 +55,7 @@ impl<'a> Task for Batch<'a> {
         self.claims.len()
     }
 
-    fn run(&self, number: usize) -> Option<Found> {
+    fn run(&self, number: usize) -> Option<Finding> {
         let guide = Guide::new(self.bundle, self.reversals);
         answer_soon(&guide, &self.claims[number], self.budget)
     }
@@ -63,9 +63,9 @@ impl<'a> Task for Batch<'a> {
 
 /// A batch, and what was found soon for its claims.
 #[derive(Drop)]
-struct Known<'a> {
+struct BegunBatch<'a> {
     batch: &'a Batch<'a>,
-    soon: &'a [Option<Found>],
+    soon: &'a [Option<Finding>],
 }
 
 /// Tells all claims in their order: whether all of them are answered with a yes.
@@ -121,15 +121,15 @@ fn tell_batch<H: Threads + Sync, G: Gate + Sync, I: Io>(
     match share(batch, workers) {
         Ok(soon) => {
             let soon = soon.as_slice();
-            tell_each(&Known { batch, soon }, help, workers, io)
+            tell_each(&BegunBatch { batch, soon }, help, workers, io)
         }
-        Err(_) => tell_each(&Known { batch, soon: &[] }, help, workers, io),
+        Err(_) => tell_each(&BegunBatch { batch, soon: &[] }, help, workers, io),
     }
 }
 
 /// Tells each claim of a batch.
 fn tell_each<H: Threads + Sync, G: Gate + Sync, I: Io>(
-    known: &Known<'_>,
+    known: &BegunBatch<'_>,
     help: &mut Help<'_>,
     workers: &Workers<'_, H, G>,
     io: &mut I,
@@ -156,7 +156,7 @@ fn tell_each<H: Threads + Sync, G: Gate + Sync, I: Io>(
 
 /// Tells the claim of a batch that has this number in it.
 fn tell_next<H: Threads + Sync, G: Gate + Sync, I: Io>(
-    known: &Known<'_>,
+    known: &BegunBatch<'_>,
     number: usize,
     help: &mut Help<'_>,
     workers: &Workers<'_, H, G>,
@@ -190,7 +190,7 @@ fn tell_next<H: Threads + Sync, G: Gate + Sync, I: Io>(
 fn tell<I: Io>(
     batch: &Batch<'_>,
     claim: &Claim<'_>,
-    found: &Found,
+    found: &Finding,
     io: &mut I,
 ) -> Result<bool, WriteFault>
     requires few { HasFewLetters (claim_shown claim.now) }

@@ -7,7 +7,7 @@ ghost use Rattle.claim_text.specs.Shown.{claim_shown};
 ghost use Rattle.puz_walk.specs.WordBundles.{HaveWords};
 ghost use Rattle.pdb_prove.specs.Answers.{IsFoundFor};
 
-use crate::answers::{FEW_BOARDS, Found, answer_by};
+use crate::answers::{FEW_BOARDS, Finding, answer_by};
 use crate::counts::Counting;
 use crate::worded::{answer_over, wordable, words_of};
 use claim_text::Claim;
@@ -67,7 +67,7 @@ impl<'a> Help<'a> {
         claim: &Claim<'_>,
         budget: u64,
         workers: &Workers<'_, H, G>,
-    ) -> Found
+    ) -> Finding
         requires { side_of claim.now.board ≡ self.old.bundle.now.side }
         ensures bundle { self.new.bundle ≡ self.old.bundle }
         ensures found { IsFoundFor self.old.bundle.now budget (claim_shown claim.now) result }
@@ -87,7 +87,7 @@ impl<'a> Help<'a> {
         claim: &Claim<'_>,
         budget: u64,
         workers: &Workers<'_, H, G>,
-    ) -> Option<Found>
+    ) -> Option<Finding>
         requires { side_of claim.now.board ≡ self.old.bundle.now.side }
         ensures bundle { self.new.bundle ≡ self.old.bundle }
         ensures found { let shown = claim_shown claim.now in
@@ -123,7 +123,7 @@ impl<'a> Help<'a> {
         claim: &Claim<'_>,
         budget: u64,
         workers: &Workers<'_, H, G>,
-    ) -> Found
+    ) -> Finding
         requires { side_of claim.now.board ≡ self.now.bundle.now.side }
         ensures { IsFoundFor self.now.bundle.now budget (claim_shown claim.now) result }
     {

@@ -5,7 +5,7 @@ ghost use Rattle.pdb_request.specs.Asked.{prove_shown};
 ghost use Rattle.pdb_run.specs.Answers.{all_bytes};
 ghost use Rattle.pdb_run.specs.Inputs.{wanted_of};
 ghost use Rattle.pdb_prove.specs.Prove.{a_claims_text, in_order, prove_plan};
-ghost use Rattle.pdb_prove.specs.Steps.{files_of};
+ghost use Rattle.pdb_prove.specs.Steps.{files_read};
 
 use pdb_request::Prove;
 use pdb_run::{Command, Input};
@@ -17,7 +17,7 @@ const CLAIMS_LIMIT: u64 = 1 << 26;
 
 /// Claims to be proved, as a command.
 #[derive(Clone, Copy)]
-pub(crate) struct Proving<'c, 'n>(pub(crate) &'c Prove<'n>);
+pub(crate) struct Proving<'c, 'n>(pub(crate) &'c Prove<Option<&'n str>, &'n str>);
 
 impl Command for Proving<'_, '_> {
     ghost plan = { λ command. prove_plan (prove_shown command.0.now) };
@@ -29,14 +29,24 @@ impl Command for Proving<'_, '_> {
     }
 }
 
-/// The claims text, the set text and the tables, which were read in this order.
-pub(crate) fn files_read(inputs: Vec<Vec<u8>>) -> (Vec<u8>, Vec<u8>, Vec<Vec<u8>>)
+/// Claims to be proved with the bytes of their inputs, which were read in their order.
+pub(crate) fn with_bytes(
+    prove: &Prove<Option<&str>, &str>,
+    inputs: Vec<Vec<u8>>,
+) -> Prove<Vec<u8>, Vec<u8>>
     requires { 2 ≤ length inputs.items }
-    ensures { let files = files_of result.0.items result.1.items (all_bytes result.2.items) in
-        all_bytes inputs.items ≡ in_order files }
+    ensures fold { result.fold ≡ prove.now.fold }
+    ensures inputs { all_bytes inputs.items ≡ in_order (files_read result) }
 {
     let mut tables = inputs;
-    (tables.remove(0), tables.remove(0), tables)
+    Prove {
+        claims: tables.remove(0),
+        sets: tables.remove(0),
+        tables,
+        workers: prove.workers,
+        fold: prove.fold,
+        budget: prove.budget,
+    }
 }
 
 /// A claims text under this name, or of the reader.

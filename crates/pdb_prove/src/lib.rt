@@ -12,5 +12,5 @@ mod runs;
 mod telling;
 mod worded;
 
-pub use answers::Found;
+pub use answers::Finding;
 pub use runs::run_prove;

@@ -1,28 +1,28 @@
 //! What is to be known before anything is searched: the claims, the bundle of the tables and the sets, and the automaton of reversals.
 
-ghost use Rattle.std.specs.Prelude.{◌≡◌, ◌≤◌, ◌^◌, Bool, List, length, map, IfErr, IfNone, IfOk, IfSome};
+ghost use Rattle.std.specs.Prelude.{◌≡◌, ◌≤◌, ◌^◌, Bool, length, map, IfErr, IfNone, IfOk, IfSome};
 ghost use Rattle.std.specs.List.{All, AllByRecursion};
 ghost use Rattle.puz_board.specs.Boards.{side_of};
+ghost use Rattle.claim_text.specs.Lines.{HasFewLetters};
 ghost use Rattle.claim_text.specs.Shown.{claim_shown};
 ghost use Rattle.claim_text.specs.Texts.{AreClaims};
-ghost use Rattle.byte_io.specs.Shelf.{Bytes};
+ghost use Rattle.pdb_run.specs.Answers.{digest_lines};
+ghost use Rattle.pdb_run.specs.Writing.{digests_of};
 ghost use Rattle.pdb_verdict.specs.FileBundles.{IsReadBundle};
-ghost use Rattle.pdb_prove.specs.Prove.{AreReady, IsFirstOfAnotherSide};
-ghost use Rattle.pdb_prove.specs.Steps.{IsCauseForClaims, files_of};
+ghost use Rattle.pdb_prove.specs.Prove.{AreReady, ClaimsFiles, IsFirstOfAnotherSide, digested_files};
+ghost use Rattle.pdb_prove.specs.Steps.{IsCauseForClaims, files_read, of_claims};
 
-use claim_text::{Claim, MOST_CLAIMS};
+use claim_text::{Claim, ClaimsFault, MOST_CLAIMS, read_claims};
 use move_strings::Automaton;
-use pdb_verdict::Fault;
+use pdb_request::Prove;
+use pdb_run::Digested;
+use pdb_verdict::{Bundling, Fault, over_tables};
 use set_sum::Bundle;
 use std::alloc::Global;
-
-/// A claims text, the claims of it, and a set text.
-#[derive(Drop)]
-pub(crate) struct Asked<'t> {
-    pub(crate) text: &'t [u8],
-    pub(crate) sets: &'t [u8],
-    pub(crate) claims: Vec<Claim<'t>>,
-}
+use std::convert::identity;
+use std::sync::Wait;
+use std::thread::Threads;
+use work_run::{Gate, Workers};
 
 /// Claims, and a bundle and the automaton of reversals of the side of their boards.
 #[derive(Drop)]
@@ -34,23 +34,67 @@ pub(crate) struct Ready<'b, 'c> {
     ghost one_side: { reversals.side ≡ bundle.side },
 }
 
+/// What is ready over the inputs that were read, or why there is nothing; and the digest lines of the tables and of the claims text,
+/// which are made beside the tables' checks.
+pub(crate) fn make_ready<'i, H: Threads + Wait + Sync, G: Gate + Sync>(
+    read: &'i mut Prove<Vec<u8>, Vec<u8>>,
+    workers: &Workers<'_, H, G>,
+) -> (Digested<'i>, Result<Ready<'i, 'i>, Fault>)
+    ensures digested { digest_lines result.0 ≡ digests_of (digested_files (files_read read.old)) }
+    ensures ready { let files = files_read read.old in IfOk result.1
+        (λ ready. AreReady read.old.fold files (map claim_shown ready.claims.items) ready.bundle) }
+    ensures few { IfOk result.1
+        (λ ready. All (λ claim. HasFewLetters (claim_shown claim)) ready.claims.items) }
+    ensures fault { IfErr result.1 (IsCauseForClaims read.old.fold (files_read read.old)) }
+{
+    let fold = read.fold;
+    let Prove {
+        claims: text,
+        sets,
+        tables,
+        ..
+    } = read;
+    let (text, sets) = (text.as_slice(), sets.as_slice());
+    match read_claims(workers.alloc, text) {
+        Ok(claims) => {
+            let bundling = Bundling { sets, fold };
+            let (digested, bundle) = over_tables(tables, Some(text), bundling, workers, identity);
+            (digested, ready_with(workers.alloc, claims, bundle))
+        }
+        Err(fault) => {
+            let digested = Digested::Files(tables.as_slice(), Some(text));
+            (digested, Err(of_claims(fault)))
+        }
+    }
+}
+
+/// Why nothing is searched, where a text gives no claims.
+fn of_claims(fault: ClaimsFault) -> Fault
+    ensures { result ≡ of_claims fault }
+{
+    match fault {
+        ClaimsFault::Q1 { line } => Fault::Q1(line),
+        ClaimsFault::Memory => Fault::Memory,
+    }
+}
+
 /// These claims and a bundle, where there is one, and of the side of their boards, with the automaton of that side.
-pub(crate) fn ready_with<'b, 'c>(
+fn ready_with<'b, 'c>(
     alloc: Global,
     claims: Vec<Claim<'c>>,
     bundle: Result<Bundle<'b>, Fault>,
 ) -> Result<Ready<'b, 'c>, Fault>
     requires { length claims.items ≤ MOST_CLAIMS }
-    ensures ok { (fold : Bool) (text sets : Bytes) (tables : List Bytes)
-        → AreClaims text (map claim_shown claims.entry.items)
-        → IsReadBundle fold tables sets bundle.entry
-        → IfOk result (λ ready. AreReady fold (files_of text sets tables)
-        (map claim_shown ready.claims.items) ready.bundle) }
+    ensures ok { (fold : Bool) (files : ClaimsFiles)
+        → AreClaims files.claims (map claim_shown claims.entry.items)
+        → IsReadBundle fold files.tables files.sets bundle.entry
+        → IfOk result
+        (λ ready. AreReady fold files (map claim_shown ready.claims.items) ready.bundle) }
     ensures same { IfOk result (λ ready. ready.claims.items ≡ claims.entry.items) }
-    ensures err { (fold : Bool) (text sets : Bytes) (tables : List Bytes)
-        → AreClaims text (map claim_shown claims.entry.items)
-        → IsReadBundle fold tables sets bundle.entry
-        → IfErr result (IsCauseForClaims fold (files_of text sets tables)) }
+    ensures err { (fold : Bool) (files : ClaimsFiles)
+        → AreClaims files.claims (map claim_shown claims.entry.items)
+        → IsReadBundle fold files.tables files.sets bundle.entry
+        → IfErr result (IsCauseForClaims fold files) }
 {
     let bundle = bundle?;
     match first_of_another_side(claims.as_slice(), &bundle) {

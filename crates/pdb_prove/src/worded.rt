@@ -7,7 +7,7 @@ ghost use Rattle.puz_walk.specs.WordBundles.{HaveWords};
 ghost use Rattle.pdb_prove.specs.Answers.{IsFoundFor};
 ghost use Rattle.pdb_prove.specs.Steps.{placements_of};
 
-use crate::answers::{Found, answer_by};
+use crate::answers::{Finding, answer_by};
 use claim_text::Claim;
 use edge_words::{Words, index_count};
 use move_strings::Automaton;
@@ -71,7 +71,7 @@ pub(crate) fn answer_over<R: Threads + Sync, G: Gate + Sync>(
     claim: &Claim<'_>,
     budget: u64,
     workers: &Workers<'_, R, G>,
-) -> Found
+) -> Finding
     requires words { HaveWords tables.0.now tables.1.now }
     requires automaton { automaton.now.side ≡ tables.0.now.side }
     requires claim { side_of claim.now.board ≡ tables.0.now.side }

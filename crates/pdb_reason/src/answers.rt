@@ -4,7 +4,7 @@ use std::str;
 
 /// What the last line of a run says, where that is no yes.
 #[derive(Clone, Copy, Debug, PartialEq, Eq)]
-pub(crate) enum Answer<'a> {
+pub(crate) enum Ending<'a> {
     /// `refused CODE ..`: the code, and the numbers behind it.
     Refused(&'a str, [u64; 2]),
     /// `fault KIND NAME`.
@@ -15,28 +15,28 @@ pub(crate) enum Answer<'a> {
     NoMemory,
 }
 
-impl<'a> Answer<'a> {
+impl<'a> Ending<'a> {
     /// What a line says.
-    pub(crate) fn of(line: &'a [u8]) -> Option<Answer<'a>> {
+    pub(crate) fn of(line: &'a [u8]) -> Option<Ending<'a>> {
         let text = str::from_utf8(line).ok()?;
         match text.split_once(' ')? {
             ("refused", rest) => Some(refused(rest)),
-            ("fault", "maker") => Some(Answer::Maker),
+            ("fault", "maker") => Some(Ending::Maker),
             ("fault", rest) => {
                 let (what, name) = rest.split_once(' ')?;
-                Some(Answer::Fault(what, name))
+                Some(Ending::Fault(what, name))
             }
-            ("no", "memory") => Some(Answer::NoMemory),
+            ("no", "memory") => Some(Ending::NoMemory),
             _ => None,
         }
     }
 }
 
 /// A refusal: its code, and the first two numbers behind it; 0 where there are fewer.
-fn refused(rest: &str) -> Answer<'_> {
+fn refused(rest: &str) -> Ending<'_> {
     let (code, behind) = rest.split_once(' ').unwrap_or((rest, ""));
     let mut numbers = behind.split(' ').filter_map(|word| word.parse().ok());
     let first = numbers.next().unwrap_or(0);
     let second = numbers.next().unwrap_or(0);
-    Answer::Refused(code, [first, second])
+    Ending::Refused(code, [first, second])
 }

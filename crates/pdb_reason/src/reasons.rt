@@ -1,12 +1,12 @@
 //! Why a run ended without a yes.
 
-use crate::answers::Answer;
+use crate::answers::Ending;
 use crate::beginnings::Beginning;
 use crate::names::ShownName;
 use crate::outs::spared_text;
 use crate::texts::{NO_MEMORY, Subject, Text, WRONG, fault_text, text_of};
 use byte_io::shelf::Shelf;
-use pdb_request::{Parts, Prove, Replay, Request};
+use pdb_request::{JoinParts, Prove, Replay, Request};
 use std::fmt;
 use std::fmt::{Display, Formatter};
 
@@ -41,12 +41,12 @@ impl<'a> Reason<'a> {
     /// it says more: that the budget is spent, and how far the searches came. `ended` is the greatest bound below which the last
     /// searches ended without a solution, where there is one.
     pub fn of(asked: &Request<'a>, line: &'a [u8], ended: Option<u8>) -> Option<Reason<'a>> {
-        match Answer::of(line)? {
-            Answer::Refused("K1", _) => spent(asked, ended),
-            Answer::Refused(code, numbers) => refusal(asked, code, numbers),
-            Answer::Fault(kind, name) => Some(fault(asked, kind, name)?),
-            Answer::Maker => Some(told(Subject::Run, Named::Nothing, Text::Plain(WRONG), [0; 2])),
-            Answer::NoMemory => Some(told(
+        match Ending::of(line)? {
+            Ending::Refused("K1", _) => spent(asked, ended),
+            Ending::Refused(code, numbers) => refusal(asked, code, numbers),
+            Ending::Fault(kind, name) => Some(fault(asked, kind, name)?),
+            Ending::Maker => Some(told(Subject::Run, Named::Nothing, Text::Plain(WRONG), [0; 2])),
+            Ending::NoMemory => Some(told(
                 Subject::Run,
                 Named::Nothing,
                 Text::Plain(NO_MEMORY),
@@ -163,7 +163,7 @@ fn fault<'a>(asked: &Request<'a>, kind: &str, name: &'a str) -> Option<Reason<'a
         asked,
         Request::Replay(Replay { puzzle: None })
             | Request::Prove(Prove { claims: None, .. })
-            | Request::Parts(Parts { board: None, .. })
+            | Request::JoinParts(JoinParts { board: None, .. })
     );
     let name = if reads_input && name == "-" {
         Named::StandardInput
@@ -195,9 +195,9 @@ fn table_name<'a>(asked: &Request<'a>, number: u64) -> Named<'a> {
     let tables = match asked {
         Request::TableCheck(check) => return Named::File(check.file),
         Request::LogCheck(check) => &check.tables,
-        Request::Search(search) => &search.tables,
+        Request::Solve(search) => &search.tables,
         Request::Prove(prove) => &prove.tables,
-        Request::Replay(_) | Request::MakeTable(_) | Request::Parts(_) => return Named::Nothing,
+        Request::Replay(_) | Request::MakeTable(_) | Request::JoinParts(_) => return Named::Nothing,
     };
     match usize::try_from(number) {
         Ok(number) => tables
@@ -219,11 +219,11 @@ fn name_of<'a>(asked: &Request<'a>, subject: Subject) -> Named<'a> {
         (Request::LogCheck(check), Subject::Board | Subject::Goal) => Named::File(check.text),
         (Request::LogCheck(check), Subject::Sets) => Named::File(check.sets),
         (Request::LogCheck(check), Subject::Log) => Named::File(check.log),
-        (Request::Search(search), Subject::Board | Subject::Goal) => Named::File(search.board),
-        (Request::Search(search), Subject::Sets) => Named::File(search.sets),
+        (Request::Solve(search), Subject::Board | Subject::Goal) => Named::File(search.board),
+        (Request::Solve(search), Subject::Sets) => Named::File(search.sets),
         (Request::Prove(prove), Subject::Claims) => file_or_input(prove.claims),
         (Request::Prove(prove), Subject::Sets) => Named::File(prove.sets),
-        (Request::Parts(parts), Subject::Board) => file_or_input(parts.board),
+        (Request::JoinParts(parts), Subject::Board) => file_or_input(parts.board),
         _ => Named::Nothing,
     }
 }

@@ -2,16 +2,16 @@
 use Rattle.std.specs.Borrow.{Bor}
 use Rattle.std.specs.Prelude.{◌≡◌, ⊤, ℕ, ◌%◌, ◌≤◌, Bool, IfSome, List, Option, map, option_map}
 use Rattle.book_core.specs.Books.{AreWorkers}
-use Rattle.pdb_request.specs.declared.requests.Claim.{Claim}
-use Rattle.pdb_request.specs.declared.requests.Claim.TheVariants as claim
+use Rattle.pdb_request.specs.declared.requests.LogClaim.{LogClaim}
+use Rattle.pdb_request.specs.declared.requests.LogClaim.TheVariants as claim
 use Rattle.pdb_request.specs.declared.requests.LogCheck.{LogCheck}
 use Rattle.pdb_request.specs.declared.requests.MakeTable.{MakeTable}
-use Rattle.pdb_request.specs.declared.requests.Parts.{Parts}
+use Rattle.pdb_request.specs.declared.requests.JoinParts.{JoinParts}
 use Rattle.pdb_request.specs.declared.requests.Prove.{Prove}
 use Rattle.pdb_request.specs.declared.requests.Replay.{Replay}
 use Rattle.pdb_request.specs.declared.requests.Request.{Request}
 use Rattle.pdb_request.specs.declared.requests.Request.TheVariants as request
-use Rattle.pdb_request.specs.declared.requests.Search.{Search}
+use Rattle.pdb_request.specs.declared.requests.Solve.{Solve}
 use Rattle.pdb_request.specs.declared.requests.TableCheck.{TableCheck}
 
 -- ---- the arguments of commands
@@ -143,8 +143,8 @@ make_table_shown command = record {
   workers = command.workers;
 }
 
-abbrev pub search_shown : Search (Bor (List ℕ)) → SolveArguments
-search_shown search = record {
+abbrev pub solve_shown : Solve (Bor (List ℕ)) → SolveArguments
+solve_shown search = record {
   board = search.board.now;
   sets = search.sets.now;
   out = search.out.now;
@@ -155,7 +155,7 @@ search_shown search = record {
   budget = search.budget;
 }
 
-abbrev pub prove_shown : Prove → ProveArguments
+abbrev pub prove_shown : Prove (Option (Bor (List ℕ))) (Bor (List ℕ)) → ProveArguments
 prove_shown command = record {
   claims = option_map (λ s. s.now) command.claims;
   sets = command.sets.now;
@@ -165,7 +165,7 @@ prove_shown command = record {
   budget = command.budget;
 }
 
-abbrev pub parts_shown : Parts → PartsArguments
+abbrev pub parts_shown : JoinParts → PartsArguments
 parts_shown command = record {
   board = option_map (λ s. s.now) command.board;
   bound = command.bound;
@@ -174,7 +174,7 @@ parts_shown command = record {
 }
 
 -- what is claimed of a log makes the command
-abbrev pub claimed : Claim → LogArguments → Asked
+abbrev pub claimed : LogClaim → LogArguments → Asked
 claimed claim.Bound = bound
 claimed claim.Optimum = optimal
 
@@ -184,9 +184,9 @@ request_shown (request.Replay command) = replay (replay_shown command)
 request_shown (request.TableCheck check) = table (table_check_shown check)
 request_shown (request.LogCheck check) = claimed check.claim (log_check_shown check)
 request_shown (request.MakeTable command) = make_table (make_table_shown command)
-request_shown (request.Search search) = solve (search_shown search)
+request_shown (request.Solve search) = solve (solve_shown search)
 request_shown (request.Prove command) = prove (prove_shown command)
-request_shown (request.Parts command) = parts (parts_shown command)
+request_shown (request.JoinParts command) = parts (parts_shown command)
 
 -- ---- which numbers a request can have
 
@@ -196,9 +196,9 @@ HasWorkers (request.Replay command) = ⊤
 HasWorkers (request.TableCheck check) = AreWorkers check.workers
 HasWorkers (request.LogCheck check) = AreWorkers check.workers
 HasWorkers (request.MakeTable command) = AreWorkers command.workers
-HasWorkers (request.Search search) = AreWorkers search.workers
+HasWorkers (request.Solve search) = AreWorkers search.workers
 HasWorkers (request.Prove command) = AreWorkers command.workers
-HasWorkers (request.Parts command) = ⊤
+HasWorkers (request.JoinParts command) = ⊤
 
 -- a search may be let expand so many boards at most
 abbrev pub most_budget : ℕ
@@ -210,7 +210,7 @@ IsBudget count = (1 ≤ count) × (count ≤ most_budget)
 
 -- a search for a log has a budget, and one without a log has one where any is asked for
 abbrev pub HasBudget : Request → Type 0
-HasBudget (request.Search search) = IsBudget search.budget
+HasBudget (request.Solve search) = IsBudget search.budget
 HasBudget (request.Prove command) = IfSome command.budget IsBudget
 HasBudget other = ⊤
 
@@ -220,5 +220,5 @@ most_parts = 65535
 
 -- a bound has an odd count of parts, and no more than it may have, where any is asked for
 abbrev pub HasOddCount : Request → Type 0
-HasOddCount (request.Parts command) = (command.count % 2 ≡ 1) × (command.count ≤ most_parts)
+HasOddCount (request.JoinParts command) = (command.count % 2 ≡ 1) × (command.count ≤ most_parts)
 HasOddCount other = ⊤

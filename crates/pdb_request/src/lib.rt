@@ -3,4 +3,6 @@
 
 mod requests;
 
-pub use requests::{Claim, LogCheck, MakeTable, Parts, Prove, Replay, Request, Search, TableCheck};
+pub use requests::{
+    JoinParts, LogCheck, LogClaim, MakeTable, Prove, Replay, Request, Solve, TableCheck,
+};

@@ -12,11 +12,11 @@ pub enum Request<'a> {
     /// `make-table`.
     MakeTable(MakeTable<'a>),
     /// `solve`.
-    Search(Search<'a, &'a str>),
+    Solve(Solve<'a, &'a str>),
     /// `prove`.
-    Prove(Prove<'a>),
+    Prove(Prove<Option<&'a str>, &'a str>),
     /// `parts`.
-    Parts(Parts<'a>),
+    JoinParts(JoinParts<'a>),
 }
 
 /// Whether the moves of a puzzle text solve its board.
@@ -36,7 +36,7 @@ pub struct TableCheck<'a> {
 
 /// What is claimed of a log.
 #[derive(Clone, Copy, Debug, PartialEq, Eq)]
-pub enum Claim {
+pub enum LogClaim {
     /// That it proves a bound for the board of a board text.
     Bound,
     /// That it proves the moves of a puzzle text to be the fewest.
@@ -47,7 +47,7 @@ pub enum Claim {
 /// with their bytes.
 #[derive(Debug, PartialEq, Drop)]
 pub struct LogCheck<T> {
-    pub claim: Claim,
+    pub claim: LogClaim,
     /// What the log is to prove something of: a board text for a bound, a puzzle text for an optimum.
     pub text: T,
     /// The sets of tables that the log sums over.
@@ -79,7 +79,7 @@ pub struct MakeTable<'a> {
 /// A shortest solution of a board, and the log that proves it shortest: the files that are read, in the order in which they are
 /// read, by their names or with their bytes, and the name of the one that is kept.
 #[derive(Debug, PartialEq, Drop)]
-pub struct Search<'a, T> {
+pub struct Solve<'a, T> {
     /// The board text.
     pub board: T,
     /// The sets of tables that the log sums over.
@@ -98,15 +98,16 @@ pub struct Search<'a, T> {
     pub budget: u64,
 }
 
-/// Bounds and optima by a search, without a log: the files that are read, by their names and in the order in which they are read.
+/// Bounds and optima by a search, without a log: the files that are read, in the order in which they are read, by their names or
+/// with their bytes.
 #[derive(Debug, PartialEq, Drop)]
-pub struct Prove<'a> {
-    /// The file of the claims, or none for standard input.
-    pub claims: Option<&'a str>,
+pub struct Prove<C, T> {
+    /// The claims, whose name is none for standard input.
+    pub claims: C,
     /// The sets of tables that the search sums over.
-    pub sets: &'a str,
+    pub sets: T,
     /// The tables, in the order of their numbers: one or more.
-    pub tables: Vec<&'a str>,
+    pub tables: Vec<T>,
     /// How many workers check the tables and search: 1 to 64.
     pub workers: u8,
     /// Whether each table is folded once it is checked.
@@ -118,7 +119,7 @@ pub struct Prove<'a> {
 /// A bound of a board, from lines that say that its parts hold: the files that are read, by their names and in the order in which
 /// they are read.
 #[derive(Debug, PartialEq, Drop)]
-pub struct Parts<'a> {
+pub struct JoinParts<'a> {
     /// The file of the board text, or none for standard input.
     pub board: Option<&'a str>,
     /// How many moves each solution is to have at least.

@@ -8,7 +8,7 @@ use Rattle.pdb_run.specs.Io.{HasRead, HasReadAndTried, IsSaid}
 use Rattle.pdb_run.specs.Runs.{Ends, HasCause, IsAnswered, IsFree, LeavesCalls, LeavesFailure, LeavesFiles, LeavesReader, MayReplace, Outcome}
 use Rattle.pdb_run.specs.Runs.{SparesFiles, World, made_wrong, no_memory, replied, status_of, status_of_reply, text_of, unlisted, with_kept}
 use Rattle.pdb_run.specs.Steps.{HasBegun, kept_of}
-use Rattle.pdb_run.specs.declared.answers.Answer.{Answer}
+use Rattle.pdb_run.specs.declared.answers.CommandAnswer.{CommandAnswer}
 use Rattle.pdb_run.specs.declared.statuses.Status.{Status}
 use Rattle.pdb_run.specs.declared.statuses.Status.TheVariants.{Yes, Refused}
 
@@ -90,7 +90,7 @@ module _ {plan : Plan} {old mid new : World} {status : Status} where
       ends_so made_wrong said (_, are.read, makes) are.free are.files are.calls are.failed are.behind are.written
 
   -- an answer is said, and what it keeps was kept
-  pub ends_answered : {read : World} {inputs : List Bytes} {answer : Answer} {reply : Reply}
+  pub ends_answered : {read : World} {inputs : List Bytes} {answer : CommandAnswer} {reply : Reply}
       → HasBegun plan old read inputs → plan.MayReply inputs reply → IsReplyOf answer reply
       → IsSaid (answer_text answer) (status_of_reply answer.is_yes) mid new status
       → mid.files ≡ with_kept read.files plan.keeps_under (kept_of answer)

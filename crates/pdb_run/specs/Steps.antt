@@ -6,7 +6,7 @@ use Rattle.pdb_run.specs.Commands.{Plan, Wanted}
 use Rattle.pdb_run.specs.Inputs.{AreRead, IsAsTold, left_by_all}
 use Rattle.pdb_run.specs.Io.{IsLoaded}
 use Rattle.pdb_run.specs.Runs.{IsFree, World, calls_before, kept_after}
-use Rattle.pdb_run.specs.declared.answers.Answer.{Answer}
+use Rattle.pdb_run.specs.declared.answers.CommandAnswer.{CommandAnswer}
 use Rattle.pdb_run.specs.declared.runs.Keeping.{Keeping}
 
 -- how the files begin that are spared, if any are, as the code has it
@@ -30,5 +30,5 @@ pub record HasBegun (plan : Plan) (old new : World) (inputs : List Bytes) : Type
   pub written : new.written ≡ old.written
 
 -- the file that is kept of an answer
-abbrev pub kept_of : Answer → Option Bytes
+abbrev pub kept_of : CommandAnswer → Option Bytes
 kept_of answer = kept_after answer.is_yes (made_file answer)

@@ -12,7 +12,7 @@ use std::alloc::AllocError;
 pub const LINES_LEN: usize = 320;
 
 /// Lines, as a value.
-pub type Lines = ArrayString<LINES_LEN>;
+pub type AnswerLines = ArrayString<LINES_LEN>;
 
 /// The digest lines that come first in an answer.
 #[derive(Drop)]
@@ -25,14 +25,14 @@ pub enum Digested<'a> {
 
 /// An answer: the digests of the files that it speaks of, a file that was made, its lines, and whether it is a yes.
 #[derive(Drop)]
-pub struct Answer<'a> {
+pub struct CommandAnswer<'a> {
     pub digested: Digested<'a>,
     /// A file that was made: its digest comes next, and after a yes it is kept, where the command keeps any.
     pub made: Option<Vec<u8>>,
     /// The line of this digest, where it is made already.
     pub made_digest: Option<Digests>,
     /// The lines behind the digests.
-    pub lines: Lines,
+    pub lines: AnswerLines,
     /// Whether it is a yes.
     pub is_yes: bool,
     ghost made_ready: { option_map (λ d. d.items) made_digest
@@ -60,11 +60,11 @@ impl From<AllocError> for Unanswered {
 
 /// Pieces of text in one.
 #[tactic(auto, using(crate::proofs::PageLemmas::joined_fits))]
-pub fn lines(pieces: &[&str]) -> Lines
+pub fn lines(pieces: &[&str]) -> AnswerLines
     requires { length (joined pieces.now) ≤ LINES_LEN }
     ensures { result.bytes ≡ joined pieces.now }
 {
-    let mut all = Lines::new();
+    let mut all = AnswerLines::new();
     for piece in pieces {
         all.push_str(piece);
     }

@@ -8,6 +8,7 @@ use crate::answers::Digested;
 use arrayvec::{ArrayVec, CapacityError};
 use sha2::{Digest, Sha256};
 use std::thread::{Threads, join};
+use work_run::Workers;
 
 /// How many bytes a digest line has: `sha256 `, 64 digits and its end.
 pub const DIGEST_LEN: usize = 72;
@@ -25,14 +26,13 @@ pub const DIGESTS_LEN: usize = (FILES_BESIDE + 1) * DIGEST_LEN;
 pub type Digests = ArrayVec<u8, DIGESTS_LEN>;
 
 /// Digest lines that were made, or too many of them.
-type Made = Result<Digests, CapacityError>;
+type MadeDigests = Result<Digests, CapacityError>;
 
 /// The digest lines of files and of a last one, where there is one, and what a check answers beside which they are made: in
 /// threads of their own, at most as many as workers. Where a thread can't be started, its digests are made after the check
 /// or after others. With one worker, or more files than `FILES_BESIDE`, none are made.
-pub fn beside<R: Threads + Sync, T, F: FnOnce() -> T>(
-    rt: &R,
-    workers: u8,
+pub fn beside<R: Threads + Sync, G, T, F: FnOnce() -> T>(
+    workers: &Workers<'_, R, G>,
     files: &[Vec<u8>],
     last: Option<&[u8]>,
     check: F,
@@ -42,22 +42,22 @@ pub fn beside<R: Threads + Sync, T, F: FnOnce() -> T>(
         (λ digests. digests.items ≡ digests_of (all_files files.now last.entry)) }
     ensures answer { F.post check result.1 }
 {
-    if workers < 2 || files.len() > FILES_BESIDE {
+    let (rt, groups) = (workers.rt, workers.count);
+    if groups < 2 || files.len() > FILES_BESIDE {
         return (None, check());
     }
-    let digests = || -> Made
+    let digests = || -> MadeDigests
         ensures { IfOk result
             (λ digests. digests.items ≡ digests_of (all_files files.entry.now last.entry)) }
-    { digests_in_groups(rt, workers, files, last) };
+    { digests_in_groups(rt, groups, files, last) };
     let (digests, answer) = join(rt, digests, check);
     (digests.ok(), answer)
 }
 
 /// The digest lines of files and of a last one, where there is one, and what a check answers: the lines are made beside the check,
 /// as `beside` makes them, or are still to be made.
-pub fn digested_beside<'f, R: Threads + Sync, T, F: FnOnce() -> T>(
-    rt: &R,
-    workers: u8,
+pub fn digested_beside<'f, R: Threads + Sync, G, T, F: FnOnce() -> T>(
+    workers: &Workers<'_, R, G>,
     files: &'f [Vec<u8>],
     last: Option<&'f [u8]>,
     check: F,
@@ -67,7 +67,7 @@ pub fn digested_beside<'f, R: Threads + Sync, T, F: FnOnce() -> T>(
         digest_lines result.0 ≡ digests_of all }
     ensures answer { F.post check result.1 }
 {
-    let (digests, answer) = beside(rt, workers, files, last, check);
+    let (digests, answer) = beside(workers, files, last, check);
     let digested = match digests {
         Some(lines) => Digested::Lines(lines),
         None => Digested::Files(files, last),
@@ -77,9 +77,8 @@ pub fn digested_beside<'f, R: Threads + Sync, T, F: FnOnce() -> T>(
 
 /// What a check of a file answers, and behind the lines so far the file's digest line: made in a thread of its own beside the
 /// check, or behind it, where there is one worker or the thread can't be started.
-pub fn with_digest<R: Threads, T, F: FnOnce() -> T>(
-    rt: &R,
-    workers: u8,
+pub fn with_digest<R: Threads, G, T, F: FnOnce() -> T>(
+    workers: &Workers<'_, R, G>,
     digests: &mut Digests,
     file: &[u8],
     check: F,
@@ -90,15 +89,14 @@ pub fn with_digest<R: Threads, T, F: FnOnce() -> T>(
     ensures length { length digests.new.items ≡ length digests.old.items + DIGEST_LEN }
     ensures answer { F.post check result }
 {
-    let (line, answer) = line_beside(rt, workers, file, check);
+    let (line, answer) = line_beside(workers, file, check);
     let _fits = digests.try_extend_from_slice(&line);
     answer
 }
 
 /// A file's digest line, and what a check answers beside which it is made, where there is more than one worker.
-fn line_beside<R: Threads, T, F: FnOnce() -> T>(
-    rt: &R,
-    workers: u8,
+fn line_beside<R: Threads, G, T, F: FnOnce() -> T>(
+    workers: &Workers<'_, R, G>,
     file: &[u8],
     check: F,
 ) -> ([u8; DIGEST_LEN], T)
@@ -106,14 +104,14 @@ fn line_beside<R: Threads, T, F: FnOnce() -> T>(
     ensures line { result.0 ≡ digest_line file.now }
     ensures answer { F.post check result.1 }
 {
-    if workers < 2 {
+    if workers.count < 2 {
         let answer = check();
         return (digest_line(file), answer);
     }
     let line = || -> [u8; DIGEST_LEN]
         ensures { result ≡ digest_line file.entry.now }
     { digest_line(file) };
-    join(rt, line, check)
+    join(workers.rt, line, check)
 }
 
 /// The digest lines of files, and of a last one, where there is one: by at most so many groups, each but the last one in a
@@ -123,7 +121,7 @@ fn digests_in_groups<R: Threads + Sync>(
     groups: u8,
     files: &[Vec<u8>],
     last: Option<&[u8]>,
-) -> Made
+) -> MadeDigests
     ensures { IfOk result
         (λ digests. digests.items ≡ digests_of (all_files files.now last.entry)) }
 {
@@ -131,12 +129,12 @@ fn digests_in_groups<R: Threads + Sync>(
         return digests_in_order(files, last);
     }
     let (front, behind) = files.split_at(files.len().div_ceil(2));
-    let front_digests = || -> Made
+    let front_digests = || -> MadeDigests
         requires { 1 < groups }
         ensures { IfOk result
             (λ digests. digests.items ≡ digests_of (all_files front.entry.now None)) }
     { digests_in_groups(rt, groups / 2, front, None) };
-    let digests_behind = || -> Made
+    let digests_behind = || -> MadeDigests
         requires { 1 < groups }
         ensures { IfOk result
             (λ digests. digests.items ≡ digests_of (all_files behind.entry.now last.entry)) }
@@ -146,7 +144,7 @@ fn digests_in_groups<R: Threads + Sync>(
 }
 
 /// The digest lines of files, and of the last one, where there is one.
-fn digests_in_order(files: &[Vec<u8>], last: Option<&[u8]>) -> Made
+fn digests_in_order(files: &[Vec<u8>], last: Option<&[u8]>) -> MadeDigests
     ensures { IfOk result
         (λ digests. digests.items ≡ digests_of (all_files files.now last.entry)) }
 {
@@ -161,7 +159,7 @@ fn digests_in_order(files: &[Vec<u8>], last: Option<&[u8]>) -> Made
 }
 
 /// Lines, and the lines behind them.
-fn in_order(front: Made, behind: Made) -> Made
+fn in_order(front: MadeDigests, behind: MadeDigests) -> MadeDigests
     ensures lines { IfOk result
         (λ all. IfOk front (λ f. IfOk behind (λ b. all.items ≡ f.items ++ b.items))) }
     ensures both { OnOk result (IsOk front × IsOk behind) }

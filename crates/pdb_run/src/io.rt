@@ -8,7 +8,7 @@ ghost use Rattle.pdb_run.specs.Io.{CanNotKeep, IsKept, IsLoaded, IsNotKept, IsNo
 ghost use Rattle.pdb_run.specs.Runs.{World};
 ghost use Rattle.pdb_run.specs.Writing.{named_line, shown_byte};
 
-use crate::answers::Answer;
+use crate::answers::CommandAnswer;
 use crate::commands::Input;
 use crate::writing::{put_named, say};
 use byte_io::shelf::{KeepFault, Shelf};
@@ -52,7 +52,7 @@ pub trait Io {
         ensures failed { IfErr result (IsNotKept name.now (world self.old) (world self.new)) };
 
     /// Writes an answer.
-    fn write_answer(&mut self, answer: &Answer<'_>) -> Result<(), WriteFault>
+    fn write_answer(&mut self, answer: &CommandAnswer<'_>) -> Result<(), WriteFault>
         ensures same_streams { streams self.new ≡ streams self.old }
         ensures written { let text = answer_text answer.now in
             IsWritten text (world self.old) (world self.new) result };
@@ -111,7 +111,7 @@ impl<S: Shelf, R: Source, W: Sink> Io for BorrowedIo<'_, '_, '_, S, R, W> {
         self.shelf.keep(alloc, name, bytes)
     }
 
-    fn write_answer(&mut self, answer: &Answer<'_>) -> Result<(), WriteFault> {
+    fn write_answer(&mut self, answer: &CommandAnswer<'_>) -> Result<(), WriteFault> {
         say(answer, self.out)
     }
 

@@ -11,7 +11,7 @@ mod runs;
 mod statuses;
 mod writing;
 
-pub use answers::{Answer, Digested, LINES_LEN, Lines, Unanswered, lines};
+pub use answers::{AnswerLines, CommandAnswer, Digested, LINES_LEN, Unanswered, lines};
 pub use commands::{Command, Input};
 pub use digests::{
     DIGEST_LEN, DIGESTS_LEN, Digests, FILES_BESIDE, beside, digested_beside, with_digest,

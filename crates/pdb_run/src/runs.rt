@@ -9,7 +9,7 @@ ghost use Rattle.pdb_run.specs.Runs.{Ends, MayReplaceBy, SparesBy, World, status
 ghost use Rattle.pdb_run.specs.Steps.{fronts_in, kept_of};
 ghost use Rattle.pdb_run.specs.Writing.{memory_line, named_line, shown, shown_byte};
 
-use crate::answers::{Answer, Unanswered};
+use crate::answers::{CommandAnswer, Unanswered};
 use crate::commands::{Command, Input};
 use crate::inputs::{Unread, load_all};
 use crate::io::Io;
@@ -127,7 +127,7 @@ fn is_spared<I: Io>(keeping: &Keeping<'_, '_>, inputs: &[Input<'_>], io: &I) -> 
 #[tactic(auto, using(crate::proofs::AnswerLemmas::ends_wanting))]
 pub fn conclude<C: Command, I: Io>(
     command: &C,
-    answer: &Result<Answer<'_>, AllocError>,
+    answer: &Result<CommandAnswer<'_>, AllocError>,
     io: &mut I,
 ) -> Status
     requires { (C.plan command.now).keeps_under ≡ None }
@@ -148,7 +148,7 @@ pub fn conclude<C: Command, I: Io>(
 pub fn keep_and_conclude<C: Command, I: Io>(
     alloc: Global,
     command: &C,
-    answer: &Result<Answer<'_>, Unanswered>,
+    answer: &Result<CommandAnswer<'_>, Unanswered>,
     name: &str,
     io: &mut I,
 ) -> Status
@@ -173,7 +173,7 @@ pub fn keep_and_conclude<C: Command, I: Io>(
 /// Keeps what was made, after a yes.
 fn keep_made<I: Io>(
     alloc: Global,
-    answer: &Answer<'_>,
+    answer: &CommandAnswer<'_>,
     name: &str,
     io: &mut I,
 ) -> Result<(), KeepFault>
@@ -190,7 +190,7 @@ fn keep_made<I: Io>(
 }
 
 /// Says an answer.
-fn say_answer<I: Io>(answer: &Answer<'_>, io: &mut I) -> Status
+fn say_answer<I: Io>(answer: &CommandAnswer<'_>, io: &mut I) -> Status
     ensures same_streams { I.streams io.new ≡ I.streams io.old }
     ensures said { let status = status_of_reply answer.now.is_yes in
         IsSaid (answer_text answer.now) status (I.world io.old) (I.world io.new) result }

@@ -6,14 +6,14 @@ ghost use Rattle.pdb_run.specs.Answers.{answer_text, digest_lines, made_file};
 ghost use Rattle.pdb_run.specs.Pages.{Adds};
 ghost use Rattle.pdb_run.specs.Writing.{all_files, digests_of, list_of, named_line, shown_byte};
 
-use crate::answers::{Answer, Digested};
+use crate::answers::{CommandAnswer, Digested};
 use crate::pages::Page;
 use byte_io::sinks::Sink;
 use byte_io::streams::WriteFault;
 
 /// Writes an answer: the digests, and then its lines. It is one write, where the writer takes all and a page holds all.
 #[tactic(auto, using(crate::proofs::PageLemmas::gathers_three))]
-pub fn say<W: Sink>(answer: &Answer<'_>, out: &mut W) -> Result<(), WriteFault>
+pub fn say<W: Sink>(answer: &CommandAnswer<'_>, out: &mut W) -> Result<(), WriteFault>
     ensures { Writes (W.output out.old) (W.output out.new) (answer_text answer.now) result }
 {
     let mut page = Page::on(out);
@@ -24,7 +24,10 @@ pub fn say<W: Sink>(answer: &Answer<'_>, out: &mut W) -> Result<(), WriteFault>
 }
 
 /// Adds the digests to a page: the lines that are made already, or else those of the files.
-fn add_digests<W: Sink>(page: &mut Page<'_, W>, answer: &Answer<'_>) -> Result<(), WriteFault>
+fn add_digests<W: Sink>(
+    page: &mut Page<'_, W>,
+    answer: &CommandAnswer<'_>,
+) -> Result<(), WriteFault>
     ensures same_out { page.new.out.ghost_name ≡ page.old.out.ghost_name }
     ensures added { Adds W.output page.old page.new (digest_lines answer.now.digested) result }
 {
@@ -36,7 +39,10 @@ fn add_digests<W: Sink>(page: &mut Page<'_, W>, answer: &Answer<'_>) -> Result<(
 
 /// Adds the digest of the file that was made to a page, where there is one: the line that is made already, or else that of the
 /// file.
-fn add_made_digest<W: Sink>(page: &mut Page<'_, W>, answer: &Answer<'_>) -> Result<(), WriteFault>
+fn add_made_digest<W: Sink>(
+    page: &mut Page<'_, W>,
+    answer: &CommandAnswer<'_>,
+) -> Result<(), WriteFault>
     ensures same_out { page.new.out.ghost_name ≡ page.old.out.ghost_name }
     ensures added { let digest = digests_of (list_of (made_file answer.now)) in
         Adds W.output page.old page.new digest result }

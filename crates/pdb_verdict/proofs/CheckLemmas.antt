@@ -3,7 +3,7 @@ use Rattle.std.proofs.Common.{◌≡◌, ◌≢◌, ℕ, List, [], ◌∷◌, Ve
 use Rattle.std.specs.declared.alloc.AllocError.{AllocError}
 use Rattle.byte_io.specs.Shelf.{Bytes}
 use Rattle.pdb_run.specs.Answers.{IsAnswerBy, IsReplyOf, all_bytes}
-use Rattle.pdb_run.specs.declared.answers.Answer.{Answer}
+use Rattle.pdb_run.specs.declared.answers.CommandAnswer.{CommandAnswer}
 use Rattle.pdb_verdict.specs.Inputs.{Given, files_in_order}
 use Rattle.pdb_verdict.specs.Plans.{CheckTakesMemory, IsCheckReply}
 use Rattle.pdb_verdict.specs.Lines.{reply_to}
@@ -14,7 +14,7 @@ use Rattle.pdb_verdict.specs.declared.verdicts.Verdict.{Verdict}
 use Rattle.pdb_verdict.proofs.RefusalLemmas.{found_settled}
 
 -- what is told of an answer to inputs tells the result, or memory is wanted, where it is taken
-pub result_told : (inputs : Given) (answer : Result Verdict Fault) (told : Result Answer AllocError) → IsAnswerTo inputs answer
+pub result_told : (inputs : Given) (answer : Result Verdict Fault) (told : Result CommandAnswer AllocError) → IsAnswerTo inputs answer
     → IfOk told (λ t. IsReplyOf t (reply_to inputs answer) × (answer ≢ Err Memory)) → OnErr told (answer ≡ Err Memory)
     → IsAnswerBy (TellsResult inputs) (TakesMemory inputs) told
 result_told inputs answer (Ok t) is says wants =
@@ -29,7 +29,7 @@ only_input (y ∷ []) x now one is same = rw (same, is)
 only_input _ x now one is same = absurd (omega arith)
 
 -- an answer on what was read is one on the inputs
-pub check_answered : {A : Type 0} (given_of : A → Given) (a : A) (inputs : List Bytes) (told : Result Answer AllocError)
+pub check_answered : {A : Type 0} (given_of : A → Given) (a : A) (inputs : List Bytes) (told : Result CommandAnswer AllocError)
     → inputs ≡ files_in_order (given_of a) → (of : Given) → of ≡ given_of a → IsAnswerBy (TellsResult of) (TakesMemory of) told
     → IsAnswerBy (IsCheckReply given_of inputs) (CheckTakesMemory given_of inputs) told
 check_answered given_of a inputs (Ok answer) are of same says = (says.0, (a, are, rw same at says.1), says.2)

@@ -5,8 +5,8 @@ use Rattle.puz_board.specs.BoardTexts.{Spells, board_of_text}
 use Rattle.puz_board.specs.PuzzleTexts.{puzzle_parts}
 use Rattle.puz_board.proofs.SpellingLemmas.{board_of_text-spelled, spelled-board_of_text}
 use Rattle.byte_io.specs.Shelf.{Bytes}
-use Rattle.pdb_request.specs.declared.requests.Claim.{Claim}
-use Rattle.pdb_request.specs.declared.requests.Claim.TheVariants.{Bound, Optimum}
+use Rattle.pdb_request.specs.declared.requests.LogClaim.{LogClaim}
+use Rattle.pdb_request.specs.declared.requests.LogClaim.TheVariants.{Bound, Optimum}
 use Rattle.pdb_verdict.specs.Bound.{IsBoundFor, IsBoundResult, TakesMemoryForBound}
 use Rattle.pdb_verdict.specs.Inputs.{LogFiles, log_claim}
 use Rattle.pdb_verdict.specs.Optimal.{IsFoundForPuzzle, IsLeastCount, IsOptimumResult, TakesMemoryForOptimum}
@@ -69,7 +69,7 @@ module _ (files : LogFiles) where
     optimum_by (Err fault) is = cause_by refused_puzzle (λ takes. (n, (solved-parts files.text board n parts).0, takes)) fault is
 
   -- so it makes the answer
-  pub claim_answered : (claim : Claim) (start : Begun) (found : Result ℕ Fault) → begun claim files.text ≡ Ok start
+  pub claim_answered : (claim : LogClaim) (start : Begun) (found : Result ℕ Fault) → begun claim files.text ≡ Ok start
       → ByMemory start.board found → IsAnswerTo (log_claim claim files) (answer_with start.moves found)
   claim_answered Bound start found same is = by_result (board_of_text files.text)
       (λ board spelt.
@@ -87,7 +87,7 @@ module _ (files : LogFiles) where
       (λ refused why. let clash : ⊥ = grind arith in absurd clash)
 
   -- and a text that is refused is the answer
-  pub claim_refused : (claim : Claim) (refused : Fault) → begun claim files.text ≡ Err refused
+  pub claim_refused : (claim : LogClaim) (refused : Fault) → begun claim files.text ≡ Err refused
       → IsAnswerTo (log_claim claim files) (Err refused)
   claim_refused Bound refused same = by_result (board_of_text files.text)
       (λ board spelt. let clash : ⊥ = grind arith in absurd clash)

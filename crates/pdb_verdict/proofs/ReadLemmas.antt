@@ -2,7 +2,7 @@
 use Rattle.std.proofs.Common.{◌≡◌, ℕ, List, [], ◌∷◌, Option, Some, map, refl}
 use Rattle.byte_io.specs.Shelf.{Bytes, Files}
 use Rattle.pdb_request.specs.Asked.{LogArguments, ReplayArguments, TableArguments}
-use Rattle.pdb_request.specs.declared.requests.Claim.{Claim}
+use Rattle.pdb_request.specs.declared.requests.LogClaim.{LogClaim}
 use Rattle.pdb_run.specs.Commands.{Wanted}
 use Rattle.pdb_run.specs.Inputs.{AreRead, IsReadFrom}
 use Rattle.pdb_verdict.specs.Inputs.{LogFiles, files_in_order, puzzle_text, table_file}
@@ -41,7 +41,7 @@ module _ (shelf : Option Files) (reader : Option Bytes) where
     pub tables : AreRead shelf reader (map a_table arguments.tables) files.tables
 
   -- the files that were read for a check of a log are those under the names of its arguments
-  pub log_stood : (claim : Claim) (arguments : LogArguments) (files : LogFiles)
+  pub log_stood : (claim : LogClaim) (arguments : LogArguments) (files : LogFiles)
       → AreRead shelf reader (log_check_inputs arguments) (files_in_order (log_given claim arguments files)) → LogStood arguments files
   log_stood claim arguments files read =
       record { text = read.0.0; sets = read.1.0.0; log = read.1.1.0.0; tables = read.1.1.1 }

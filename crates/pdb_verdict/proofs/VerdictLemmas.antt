@@ -3,7 +3,7 @@ use Rattle.std.proofs.Common.{◌≡◌, ◌∙◌, ◌↔◌, ◌⊎◌, ℕ, �
 use Rattle.tab_file.specs.Tables.{Table}
 use Rattle.tab_rule.specs.ExactTables.{IsExactFile}
 use Rattle.byte_io.specs.Shelf.{Bytes}
-use Rattle.pdb_request.specs.declared.requests.Claim.TheVariants.{Bound, Optimum}
+use Rattle.pdb_request.specs.declared.requests.LogClaim.TheVariants.{Bound, Optimum}
 use Rattle.pdb_run.specs.Commands.{Reply}
 use Rattle.pdb_verdict.specs.Bound.{IsBoundResult}
 use Rattle.pdb_verdict.specs.Inputs.{Given, bytes_of, log_claim, puzzle_text, table_file}

@@ -1,8 +1,8 @@
 -- What is to be checked, as its bytes.
 use Rattle.std.specs.Prelude.{Bool, List, [], ◌∷◌, flat_map}
 use Rattle.byte_io.specs.Shelf.{Bytes}
-use Rattle.pdb_request.specs.declared.requests.Claim.{Claim}
-use Rattle.pdb_request.specs.declared.requests.Claim.TheVariants.{Bound, Optimum}
+use Rattle.pdb_request.specs.declared.requests.LogClaim.{LogClaim}
+use Rattle.pdb_request.specs.declared.requests.LogClaim.TheVariants.{Bound, Optimum}
 use Rattle.pdb_run.specs.Answers.{all_bytes}
 use Rattle.pdb_verdict.specs.declared.inputs.Inputs.{Inputs}
 use Rattle.pdb_verdict.specs.declared.inputs.Inputs.TheVariants as inputs
@@ -27,7 +27,7 @@ pub data Given : Type 0 where
   -- of `table`: a table file
   table_file : Bytes → Given
   -- of `bound` and `optimal`: what is claimed of a log, and the files
-  log_claim : Claim → LogFiles → Given
+  log_claim : LogClaim → LogFiles → Given
 
 -- inputs as the code has them
 abbrev pub given : Inputs → Given

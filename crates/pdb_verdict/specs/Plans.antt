@@ -2,7 +2,7 @@
 use Rattle.std.specs.Prelude.{◌≡◌, List, [], ◌∷◌, Some, map}
 use Rattle.byte_io.specs.Shelf.{Bytes}
 use Rattle.pdb_request.specs.Asked.{LogArguments, ReplayArguments, TableArguments}
-use Rattle.pdb_request.specs.declared.requests.Claim.{Claim}
+use Rattle.pdb_request.specs.declared.requests.LogClaim.{LogClaim}
 use Rattle.pdb_run.specs.Commands.{Plan, Reply, Wanted, plan}
 use Rattle.pdb_verdict.specs.Inputs.{Given, LogFiles, files_in_order, log_claim, puzzle_text, table_file}
 use Rattle.pdb_verdict.specs.Limits.{a_log, a_table, a_text}
@@ -49,9 +49,9 @@ log_check_inputs arguments =
     a_text (Some arguments.text) ∷ a_text (Some arguments.sets) ∷ a_log arguments.log ∷ map a_table arguments.tables
 
 -- what is claimed of the files that were read, with the tables folded or not
-abbrev pub log_given : Claim → LogArguments → LogFiles → Given
+abbrev pub log_given : LogClaim → LogArguments → LogFiles → Given
 log_given claim arguments files = log_claim claim (record files { fold = arguments.fold })
 
 -- they are checked for what is claimed
-abbrev pub log_check_plan : Claim → LogArguments → Plan
+abbrev pub log_check_plan : LogClaim → LogArguments → Plan
 log_check_plan claim arguments = check_plan (log_check_inputs arguments) (log_given claim arguments)

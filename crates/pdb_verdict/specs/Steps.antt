@@ -1,5 +1,5 @@
 -- What the steps of a check answer: a part of the result, or want of memory in its place.
-use Rattle.std.specs.Prelude.{◌≡◌, ℕ, Bool, true, ◌==◌, if◌then◌else◌, List, [], ◌∷◌, ◌++◌, Option, Some, None, Result, Ok, Err, MatchResult, Vec}
+use Rattle.std.specs.Prelude.{◌≡◌, ℕ, Bool, true, ◌==◌, if◌then◌else◌, List, [], ◌∷◌, ◌++◌, Option, Some, None, Result, Ok, Err, Vec}
 use Rattle.puz_board.specs.BoardTexts.{board_of_text}
 use Rattle.puz_board.specs.PuzzleTexts.{puzzle_parts}
 use Rattle.puz_board.specs.declared.texts.BoardFault.{BoardFault}
@@ -11,13 +11,11 @@ use Rattle.tab_rule.specs.declared.tables.TableFault.{TableFault}
 use Rattle.tab_rule.specs.declared.tables.TableFault.TheVariants as table_fault
 use Rattle.set_sum.specs.Bundles.{ShownBundle}
 use Rattle.set_sum.specs.declared.parts.Part.{Part}
-use Rattle.log_check.specs.GoodLogs.{IsGoodFile}
-use Rattle.log_check.specs.LogFaults.{IsCauseOfLogFault}
 use Rattle.log_check.specs.declared.faults.LogFault.{LogFault}
 use Rattle.log_check.specs.declared.faults.LogFault.TheVariants as log_fault
 use Rattle.byte_io.specs.Shelf.{Bytes}
-use Rattle.pdb_request.specs.declared.requests.Claim.{Claim}
-use Rattle.pdb_request.specs.declared.requests.Claim.TheVariants.{Bound, Optimum}
+use Rattle.pdb_request.specs.declared.requests.LogClaim.{LogClaim}
+use Rattle.pdb_request.specs.declared.requests.LogClaim.TheVariants.{Bound, Optimum}
 use Rattle.pdb_request.specs.declared.requests.LogCheck.{LogCheck}
 use Rattle.pdb_run.specs.Answers.{all_bytes}
 use Rattle.pdb_verdict.specs.Bound.{IsBoundFor}
@@ -72,10 +70,6 @@ claim_read check = log_claim check.claim (files_read check)
 
 -- ---- bounds
 
--- the bound for a board over a bundle, or why there is none, or want of memory
-abbrev pub IsFoundOver : ShownBundle → List ℕ → Bytes → Result ℕ LogFault → Type 0
-IsFoundOver bundle board log found = MatchResult found (IsGoodFile bundle board log) (λ cause. IsCauseOfLogFault cause bundle board log)
-
 -- why a log is refused, or want of memory
 abbrev pub of_log : LogFault → Fault
 of_log (log_fault.Refused refused) = fault.Log refused
@@ -111,7 +105,7 @@ begun_by_puzzle (Ok read) = Ok (begun_with read.0 (Some read.1))
 begun_by_puzzle (Err refused) = Err refused
 
 -- what a claim on the text begins with, or why the text is refused
-abbrev pub begun : Claim → Bytes → Result Begun Fault
+abbrev pub begun : LogClaim → Bytes → Result Begun Fault
 begun Bound text = begun_by_board (board_of_text text)
 begun Optimum text = begun_by_puzzle (solved_parts (puzzle_parts text))
 
@@ -123,7 +117,7 @@ answer_with (Some n) found = told_as verdict.Optimal (as_optimum n found)
 -- this is the answer to a claim that begins so, on any text that does, over any files of which this is read
 abbrev pub IsAnswerOver : Result ShownBundle Fault → Begun → Bytes → Result Verdict Fault → Type 0
 IsAnswerOver read start log answer =
-    (claim : Claim) (fold : Bool) (text sets : Bytes) (tables : List Bytes) → begun claim text ≡ Ok start → IsReadBundle fold tables sets read →
+    (claim : LogClaim) (fold : Bool) (text sets : Bytes) (tables : List Bytes) → begun claim text ≡ Ok start → IsReadBundle fold tables sets read →
     IsAnswerTo (log_claim claim (log_files fold text sets log tables)) answer
 
 -- ---- a table file alone

@@ -1,7 +1,7 @@
 -- The result on given inputs: a verdict, or the first refusal that stands.
 use Rattle.std.specs.Prelude.{◌≡◌, ⊤, ℕ, Result, Ok, Err}
 use Rattle.tab_rule.specs.declared.census.Census.{Census}
-use Rattle.pdb_request.specs.declared.requests.Claim.TheVariants.{Bound, Optimum}
+use Rattle.pdb_request.specs.declared.requests.LogClaim.TheVariants.{Bound, Optimum}
 use Rattle.pdb_run.specs.Commands.{Reply}
 use Rattle.pdb_verdict.specs.Bound.{IsBoundResult, IsBoundedText, IsFoundForText, TakesMemoryForBound}
 use Rattle.pdb_verdict.specs.Inputs.{Given, log_claim, puzzle_text, table_file}

@@ -11,7 +11,7 @@ use crate::inputs::Inputs;
 use crate::replay::verify_puzzle;
 use crate::table::verify_table;
 use crate::verdicts::{Fault, Verdict};
-use pdb_request::Claim;
+use pdb_request::LogClaim;
 use std::alloc::Global;
 use std::sync::Wait;
 use std::thread::Threads;
@@ -61,7 +61,7 @@ fn verify_by<H: Threads + Wait, G: Gate + Sync>(
             tables,
             fold,
         } => {
-            let start = begin(Claim::Bound, board)?;
+            let start = begin(LogClaim::Bound, board)?;
             let bundle = read_bundle(tables, Bundling { sets, fold }, workers);
             answer_over(bundle, &start, log, workers)
         }
@@ -72,7 +72,7 @@ fn verify_by<H: Threads + Wait, G: Gate + Sync>(
             tables,
             fold,
         } => {
-            let start = begin(Claim::Optimum, puzzle)?;
+            let start = begin(LogClaim::Optimum, puzzle)?;
             let bundle = read_bundle(tables, Bundling { sets, fold }, workers);
             answer_over(bundle, &start, log, workers)
         }

@@ -4,12 +4,12 @@
 ghost use Rattle.std.specs.Prelude.{◌≡◌, Bool, List, ℕ};
 ghost use Rattle.pdb_verdict.specs.FileBundles.{IsReadBundle};
 ghost use Rattle.pdb_verdict.specs.Optimal.{IsOptimumOver};
-ghost use Rattle.pdb_verdict.specs.Steps.{IsAnswerOver, IsFoundFor, IsFoundOver, answer_with, begun, optimum_of};
+ghost use Rattle.pdb_verdict.specs.Steps.{IsAnswerOver, IsFoundFor, answer_with, begun, optimum_of};
 
 use crate::replay::solved_board;
 use crate::verdicts::{Fault, Verdict};
-use log_check::{LogFault, check_log};
-use pdb_request::Claim;
+use log_check::check_log_by;
+use pdb_request::LogClaim;
 use puz_board::{Board, replay};
 use set_sum::Bundle;
 use std::sync::Wait;
@@ -24,15 +24,15 @@ pub(crate) struct Begun {
 }
 
 /// What a claim on a text begins with. Or why the text is refused, before anything else is looked at.
-pub(crate) fn begin(claim: Claim, text: &[u8]) -> Result<Begun, Fault>
+pub(crate) fn begin(claim: LogClaim, text: &[u8]) -> Result<Begun, Fault>
     ensures { result ≡ begun claim text.now }
 {
     match claim {
-        Claim::Bound => {
+        LogClaim::Bound => {
             let board = Board::read(text)?;
             Ok(Begun { board, moves: None })
         }
-        Claim::Optimum => {
+        LogClaim::Optimum => {
             let (board, moves) = solved_board(text)?;
             let moves = Some(moves);
             Ok(Begun { board, moves })
@@ -67,7 +67,7 @@ fn bound_for<H: Threads + Wait, G: Gate + Sync>(
         → IsFoundFor fold board.now sets log.now tables result }
 {
     let bundle = bundle?;
-    let bound = bound_over(&bundle, board, log, workers)?;
+    let bound = check_log_by(&bundle, log, board, workers)?;
     Ok(bound)
 }
 
@@ -83,27 +83,7 @@ pub fn optimum_over<H: Threads + Wait, G: Gate + Sync>(
     ensures { IsOptimumOver bundle.now board.now moves.now log.now result }
 {
     let solution = replay(board, moves)?;
-    optimum_of(solution, bound_over(bundle, board, log, workers)?)
-}
-
-/// The bound that a log proves for a board, over a bundle.
-fn bound_over<H: Threads + Wait, G: Gate + Sync>(
-    bundle: &Bundle<'_>,
-    board: &Board,
-    log: &[u8],
-    workers: &Workers<'_, H, G>,
-) -> Result<u8, LogFault>
-    ensures { IsFoundOver bundle.now board.now log.now result }
-{
-    check_log(
-        workers.rt,
-        workers.alloc,
-        bundle,
-        log,
-        board,
-        workers.count,
-        workers.gate,
-    )
+    optimum_of(solution, check_log_by(bundle, log, board, workers)?)
 }
 
 /// The bound of a board that so many moves solve, as an optimum.

@@ -7,7 +7,7 @@ use crate::verdicts::{Fault, Verdict};
 use itoa::Buffer;
 use log_check::LogRefusal;
 use log_file::FormFault;
-use pdb_run::{Lines, NO_MEMORY, lines};
+use pdb_run::{AnswerLines, NO_MEMORY, lines};
 use puz_board::{BoardFault, MoveFault, Side};
 use set_sum::SetFault;
 use tab_file::HeadFault;
@@ -17,7 +17,7 @@ use tab_rule::{Census, TableRefusal};
 const MOST_TEXT: usize = 40;
 
 /// The line of a verdict, a refusal or want of memory.
-pub fn line_of(answer: &Result<Verdict, Fault>) -> Lines
+pub fn line_of(answer: &Result<Verdict, Fault>) -> AnswerLines
     ensures { result.bytes ≡ line_of answer.now }
 {
     match answer {
@@ -30,7 +30,7 @@ pub fn line_of(answer: &Result<Verdict, Fault>) -> Lines
 }
 
 /// The line of an exact table.
-fn exact_line(side: Side, mask: u32, census: Census) -> Lines
+fn exact_line(side: Side, mask: u32, census: Census) -> AnswerLines
     ensures { result.bytes
         ≡ exact_line side mask census.entries census.unreachable census.deepest }
 {
@@ -50,7 +50,7 @@ fn exact_line(side: Side, mask: u32, census: Census) -> Lines
 }
 
 /// The line of a refusal or want of memory.
-fn fault_line(fault: &Fault) -> Lines
+fn fault_line(fault: &Fault) -> AnswerLines
     ensures { result.bytes ≡ line_of_fault fault.now }
 {
     match fault {
@@ -81,7 +81,7 @@ fn fault_line(fault: &Fault) -> Lines
 }
 
 /// The line of a refused board text.
-fn board_line(refused: BoardFault) -> Lines
+fn board_line(refused: BoardFault) -> AnswerLines
     ensures { result.bytes ≡ line_of_board_fault refused }
 {
     match refused {
@@ -94,7 +94,7 @@ fn board_line(refused: BoardFault) -> Lines
 }
 
 /// The line of a refused moves text.
-fn moves_line(refused: MoveFault) -> Lines
+fn moves_line(refused: MoveFault) -> AnswerLines
     ensures { result.bytes ≡ line_of_move_fault refused }
 {
     match refused {
@@ -106,7 +106,7 @@ fn moves_line(refused: MoveFault) -> Lines
 }
 
 /// The line of a refused table file.
-fn table_line(refused: TableRefusal) -> Lines
+fn table_line(refused: TableRefusal) -> AnswerLines
     ensures { result.bytes ≡ line_of_table_refusal refused }
 {
     match refused {
@@ -116,7 +116,7 @@ fn table_line(refused: TableRefusal) -> Lines
 }
 
 /// The line of a refused header.
-fn head_line(refused: HeadFault) -> Lines
+fn head_line(refused: HeadFault) -> AnswerLines
     ensures { result.bytes ≡ line_of_head_fault refused }
 {
     match refused {
@@ -130,7 +130,7 @@ fn head_line(refused: HeadFault) -> Lines
 }
 
 /// The line of the refused table file with this number.
-fn numbered_table_line(number: usize, refused: TableRefusal) -> Lines
+fn numbered_table_line(number: usize, refused: TableRefusal) -> AnswerLines
     ensures { result.bytes ≡ line_of_numbered_table_refusal number refused }
 {
     match refused {
@@ -158,7 +158,7 @@ fn numbered_head_text(refused: HeadFault) -> &'static str
 }
 
 /// The line of refused tables and a refused set text.
-fn sets_line(refused: SetFault) -> Lines
+fn sets_line(refused: SetFault) -> AnswerLines
     ensures { result.bytes ≡ line_of_set_fault refused }
 {
     match refused {
@@ -172,7 +172,7 @@ fn sets_line(refused: SetFault) -> Lines
 }
 
 /// The line of a refused log file.
-fn log_line(refused: LogRefusal) -> Lines
+fn log_line(refused: LogRefusal) -> AnswerLines
     ensures { result.bytes ≡ line_of_log_refusal refused }
 {
     match refused {
@@ -184,7 +184,7 @@ fn log_line(refused: LogRefusal) -> Lines
 }
 
 /// The line of bytes that are no log file.
-fn form_line(refused: FormFault) -> Lines
+fn form_line(refused: FormFault) -> AnswerLines
     ensures { result.bytes ≡ line_of_form_fault refused }
 {
     match refused {
@@ -195,7 +195,7 @@ fn form_line(refused: FormFault) -> Lines
 }
 
 /// A text, a number and the line's end.
-fn counted(text: &str, number: u64) -> Lines
+fn counted(text: &str, number: u64) -> AnswerLines
     requires { length text.now ≤ MOST_TEXT }
     ensures { result.bytes ≡ counted text.now number }
 {
@@ -204,7 +204,7 @@ fn counted(text: &str, number: u64) -> Lines
 }
 
 /// Two texts, each with a number behind it, and the line's end.
-fn counted_twice(text: &str, number: u64, other: &str, other_number: u64) -> Lines
+fn counted_twice(text: &str, number: u64, other: &str, other_number: u64) -> AnswerLines
     requires { (length text.now ≤ MOST_TEXT) × (length other.now ≤ MOST_TEXT) }
     ensures { result.bytes ≡ counted_twice text.now number other.now other_number }
 {

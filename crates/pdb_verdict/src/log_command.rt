@@ -16,7 +16,7 @@ use crate::reports::told_or_memory;
 use crate::tables::over_tables;
 use crate::verdicts::{Fault, Verdict};
 use pdb_request::LogCheck;
-use pdb_run::{Answer, Command, Input, Io, Status, conclude, digested_beside, read_inputs};
+use pdb_run::{Command, CommandAnswer, Input, Io, Status, conclude, digested_beside, read_inputs};
 use set_sum::Bundle;
 use std::alloc::{AllocError, Global};
 use std::sync::Wait;
@@ -85,7 +85,7 @@ pub fn run_log_check<H: Threads + Wait + Sync, G: Gate + Sync, I: Io>(
 fn answer_log_check<'i, H: Threads + Wait + Sync, G: Gate + Sync>(
     check: &'i mut LogCheck<Vec<u8>>,
     workers: &Workers<'_, H, G>,
-) -> Result<Answer<'i>, AllocError>
+) -> Result<CommandAnswer<'i>, AllocError>
     ensures { let claimed = claim_read check.old in
         IsAnswerBy (TellsResult claimed) (TakesMemory claimed) result }
 {
@@ -109,13 +109,8 @@ fn answer_log_check<'i, H: Threads + Wait + Sync, G: Gate + Sync>(
         }
         Err(refused) => {
             let tables = tables.as_slice();
-            let (digested, answer) = digested_beside(
-                workers.rt,
-                workers.count,
-                tables,
-                Some(log),
-                || Err(refused),
-            );
+            let refuse = || Err(refused);
+            let (digested, answer) = digested_beside(workers, tables, Some(log), refuse);
             told_or_memory(digested, answer)
         }
     }

@@ -14,7 +14,7 @@ use crate::lines::line_of;
 use crate::verdicts::{Fault, Verdict};
 use byte_io::sinks::Sink;
 use byte_io::streams::{WriteFault, put_text};
-use pdb_run::{Answer, Digested, FILES_BESIDE, say, say_digests};
+use pdb_run::{CommandAnswer, Digested, FILES_BESIDE, say, say_digests};
 use set_sum::MOST_TABLES;
 use std::alloc::AllocError;
 
@@ -54,11 +54,11 @@ pub fn line<W: Sink>(answer: &Result<Verdict, Fault>, out: &mut W) -> Result<(),
 }
 
 /// What is to be written of an answer behind these digest lines, where nothing was made.
-pub fn told<'i>(digested: Digested<'i>, answer: &Result<Verdict, Fault>) -> Answer<'i>
+pub fn told<'i>(digested: Digested<'i>, answer: &Result<Verdict, Fault>) -> CommandAnswer<'i>
     ensures { (files : List Bytes) → digest_lines digested.entry ≡ digests_of files
         → IsReplyOf result (reply_on files answer.now) }
 {
-    Answer {
+    CommandAnswer {
         digested,
         made: None,
         made_digest: None,
@@ -71,7 +71,7 @@ pub fn told<'i>(digested: Digested<'i>, answer: &Result<Verdict, Fault>) -> Answ
 pub fn told_or_memory<'i>(
     digested: Digested<'i>,
     answer: Result<Verdict, Fault>,
-) -> Result<Answer<'i>, AllocError>
+) -> Result<CommandAnswer<'i>, AllocError>
     ensures told { (files : List Bytes) → digest_lines digested.entry ≡ digests_of files
         → IfOk result (λ told. IsReplyOf told (reply_on files answer) × (answer ≢ Err Memory)) }
     ensures memory { OnErr result (answer ≡ Err Memory) }

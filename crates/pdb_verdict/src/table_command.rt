@@ -52,6 +52,6 @@ pub fn run_table<H: Threads + Wait + Sync, G: Gate + Sync, I: Io>(
     let check = || -> Result<Verdict, Fault>
         ensures { IsAnswerTo (table_file table.entry.now) result }
     { verify_table(table, workers) };
-    let (digested, answer) = digested_beside(workers.rt, workers.count, &[], Some(table), check);
+    let (digested, answer) = digested_beside(workers, &[], Some(table), check);
     conclude(&command, &told_or_memory(digested, answer), io)
 }

@@ -49,7 +49,7 @@ where
             ensures { F.post find bundle.entry result }
         { find(bundle) };
         let found = match last {
-            Some(last) => with_digest(workers.rt, workers.count, &mut digests, last, check),
+            Some(last) => with_digest(workers, &mut digests, last, check),
             None => check(),
         };
         return (Digested::Lines(digests), found);
@@ -61,7 +61,7 @@ where
             IsReadAnd bundling.entry.fold (all_bytes files.entry.now) sets
             (λ read. F.post find read result) }
     { find(read_bundle(files, bundling, workers)) };
-    digested_beside(workers.rt, workers.count, files, last, check)
+    digested_beside(workers, files, last, check)
 }
 
 /// The folded tables of files, and the digest lines of the files. The bytes of each file are given up once its table is folded
@@ -104,12 +104,12 @@ fn fold_next<'x, H: Threads + Wait + Sync, G: Gate + Sync>(
     let mut folded = match parts {
         Ok(parts) => parts,
         Err(refused) => {
-            with_digest(workers.rt, 1, digests, file, || ());
+            with_digest(workers, digests, file, || ());
             return Err(refused);
         }
     };
     let check = || fold_file(file, workers);
-    match with_digest(workers.rt, workers.count, digests, file, check) {
+    match with_digest(workers, digests, file, check) {
         Ok(table) => folded.push(Part::Folded(table))?,
         Err(fault) => return Err(fault_at(folded.len(), fault)),
     }

@@ -6,7 +6,7 @@ use Rattle.clap.specs.Simple.{App, new_app, on_top, subcommand_of, with_subcomma
 use Rattle.clap.specs.Faults.{fault_of}
 use Rattle.clap.specs.Kinds.{Kinds}
 use Rattle.pdb_request.specs.Asked.{Asked}
-use Rattle.pdb_request.specs.declared.requests.Claim.TheVariants.{Bound, Optimum}
+use Rattle.pdb_request.specs.declared.requests.LogClaim.TheVariants.{Bound, Optimum}
 use Rattle.pdb_words.specs.LogChecks.{check_command, check_in}
 use Rattle.pdb_words.specs.MakeTable.{make_table_command, make_table_in, mask_faults}
 use Rattle.pdb_words.specs.Parts.{count_faults, parts_command, parts_in}

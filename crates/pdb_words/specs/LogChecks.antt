@@ -3,29 +3,29 @@ use Rattle.std.specs.Prelude.{List, codes}
 use Rattle.clap.specs.Walk.{Row, Text}
 use Rattle.clap.specs.Simple.{App, new_app, with_rule}
 use Rattle.pdb_request.specs.Asked.{Asked, claimed}
-use Rattle.pdb_request.specs.declared.requests.Claim.{Claim}
-use Rattle.pdb_request.specs.declared.requests.Claim.TheVariants.{Bound, Optimum}
+use Rattle.pdb_request.specs.declared.requests.LogClaim.{LogClaim}
+use Rattle.pdb_request.specs.declared.requests.LogClaim.TheVariants.{Bound, Optimum}
 use Rattle.pdb_words.specs.Files.{file_in, needed_file, tables_in, with_log}
 use Rattle.pdb_words.specs.Fold.{fold_in}
 use Rattle.pdb_words.specs.Workers.{workers_in}
 
 -- the name of the command that asks for a log's check
-abbrev pub check_name : Claim → Text
+abbrev pub check_name : LogClaim → Text
 check_name Bound = codes "bound"
 check_name Optimum = codes "optimal"
 
 -- the id of the text that the claim is about
-abbrev pub text_id : Claim → Text
+abbrev pub text_id : LogClaim → Text
 text_id Bound = codes "BOARD"
 text_id Optimum = codes "PUZZLE"
 
 -- the command, as `clap` sees it
-abbrev pub check_command : Claim → App
+abbrev pub check_command : LogClaim → App
 check_command claim =
     with_log (with_rule (new_app (check_name claim)) (needed_file (text_id claim))) (needed_file (codes "LOG"))
 
 -- what the values found of it ask for
-abbrev pub check_in : Claim → List Row → Asked
+abbrev pub check_in : LogClaim → List Row → Asked
 check_in claim rows = claimed claim (record {
   text = file_in (text_id claim) rows;
   sets = file_in (codes "SETS") rows;

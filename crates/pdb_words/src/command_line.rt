@@ -19,7 +19,7 @@ use crate::replay::{replay_command, replay_in};
 use crate::solve::{solve_command, solve_in};
 use crate::table::{table_command, table_in};
 use clap::{ArgMatches, Command};
-use pdb_request::{Claim, Replay, Request};
+use pdb_request::{LogClaim, Replay, Request};
 use std::alloc::{AllocError, Global};
 
 /// What stands at the end of the help.
@@ -144,8 +144,8 @@ fn request_in<'a>(alloc: Global, matches: &ArgMatches<'a>) -> Result<Request<'a>
         None => Ok(Request::Replay(Replay { puzzle: None })),
         Some(("replay", found)) => Ok(replay_in(found)),
         Some(("table", found)) => Ok(table_in(found)),
-        Some(("bound", found)) => check_in(alloc, found, Claim::Bound),
-        Some(("optimal", found)) => check_in(alloc, found, Claim::Optimum),
+        Some(("bound", found)) => check_in(alloc, found, LogClaim::Bound),
+        Some(("optimal", found)) => check_in(alloc, found, LogClaim::Optimum),
         Some(("make-table", found)) => Ok(make_table_in(found)),
         Some(("solve", found)) => solve_in(alloc, found),
         Some(("prove", found)) => prove_in(alloc, found),

@@ -12,7 +12,7 @@ use crate::files::{file_in, tables_in, with_file, with_log};
 use crate::fold::fold_in;
 use crate::workers::workers_in;
 use clap::{ArgMatches, Command};
-use pdb_request::{Claim, LogCheck, Request};
+use pdb_request::{LogCheck, LogClaim, Request};
 use std::alloc::{AllocError, Global};
 
 /// What stands at the end of the help of `bound`.
@@ -31,7 +31,7 @@ or `refused ..` with what is wrong first.",
 
 /// The command `bound`, for `clap`.
 pub(crate) fn bound_command<'a>(alloc: Global) -> Result<Command<'a>, AllocError>
-    ensures { IfOk result (λ c. app_of c ≡ check_command Claim.Bound) }
+    ensures { IfOk result (λ c. app_of c ≡ check_command LogClaim.Bound) }
 {
     let command = new_command(
         alloc,
@@ -40,12 +40,12 @@ pub(crate) fn bound_command<'a>(alloc: Global) -> Result<Command<'a>, AllocError
         "pdb_cli bound [--workers N] [--fold] BOARD SETS LOG TABLES..",
         AFTER_HELP_OF_BOUND,
     );
-    with_claim(alloc, command, Claim::Bound, "A board text")
+    with_claim(alloc, command, LogClaim::Bound, "A board text")
 }
 
 /// The command `optimal`, for `clap`.
 pub(crate) fn optimal_command<'a>(alloc: Global) -> Result<Command<'a>, AllocError>
-    ensures { IfOk result (λ c. app_of c ≡ check_command Claim.Optimum) }
+    ensures { IfOk result (λ c. app_of c ≡ check_command LogClaim.Optimum) }
 {
     let command = new_command(
         alloc,
@@ -54,16 +54,16 @@ pub(crate) fn optimal_command<'a>(alloc: Global) -> Result<Command<'a>, AllocErr
         "pdb_cli optimal [--workers N] [--fold] PUZZLE SETS LOG TABLES..",
         AFTER_HELP_OF_OPTIMAL,
     );
-    with_claim(alloc, command, Claim::Optimum, "A puzzle text")
+    with_claim(alloc, command, LogClaim::Optimum, "A puzzle text")
 }
 
 /// The id of the text that a claim is about.
-fn text_id(claim: Claim) -> &'static str
+fn text_id(claim: LogClaim) -> &'static str
     ensures { result.now ≡ text_id claim }
 {
     match claim {
-        Claim::Bound => "BOARD",
-        Claim::Optimum => "PUZZLE",
+        LogClaim::Bound => "BOARD",
+        LogClaim::Optimum => "PUZZLE",
     }
 }
 
@@ -71,7 +71,7 @@ fn text_id(claim: Claim) -> &'static str
 fn with_claim<'a>(
     alloc: Global,
     command: Command<'a>,
-    claim: Claim,
+    claim: LogClaim,
     help: &'a str,
 ) -> Result<Command<'a>, AllocError>
     ensures { let text = needed_file (text_id claim) in let log = needed_file (codes "LOG") in
@@ -85,7 +85,7 @@ fn with_claim<'a>(
 pub(crate) fn check_in<'a>(
     alloc: Global,
     found: &ArgMatches<'a>,
-    claim: Claim,
+    claim: LogClaim,
 ) -> Result<Request<'a>, AllocError>
     ensures asked { IfOk result (λ asked.
         request_shown asked ≡ check_in claim (rows_found found.now)) }

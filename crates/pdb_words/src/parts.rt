@@ -12,7 +12,7 @@ use crate::files::{file_in, with_file};
 use crate::numbers::number_in;
 use crate::prove::file_or_input;
 use clap::{Arg, ArgMatches, Command, value_parser};
-use pdb_request::{Parts, Request};
+use pdb_request::{JoinParts, Request};
 use std::alloc::{AllocError, Global};
 
 /// What stands at the end of its help.
@@ -118,7 +118,7 @@ pub(crate) fn parts_in<'a>(alloc: Global, found: &ArgMatches<'a>) -> Result<Requ
     ensures budget { IfOk result HasBudget }
     ensures count { IfOk result HasOddCount }
 {
-    Ok(Request::Parts(Parts {
+    Ok(Request::JoinParts(JoinParts {
         board: file_or_input(file_in(found, "BOARD")),
         bound: bound_in(found),
         count: count_in(found),

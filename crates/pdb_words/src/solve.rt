@@ -13,7 +13,7 @@ use crate::fold::fold_in;
 use crate::replace::{replace_in, with_replace};
 use crate::workers::workers_in;
 use clap::{ArgMatches, Command};
-use pdb_request::{Request, Search};
+use pdb_request::{Request, Solve};
 use std::alloc::{AllocError, Global};
 
 /// What stands at the end of its help.
@@ -55,7 +55,7 @@ pub(crate) fn solve_in<'a>(alloc: Global, found: &ArgMatches<'a>) -> Result<Requ
     ensures workers { IfOk result HasWorkers }
     ensures budget { IfOk result HasBudget }
 {
-    Ok(Request::Search(Search {
+    Ok(Request::Solve(Solve {
         board: file_in(found, "BOARD"),
         sets: file_in(found, "SETS"),
         out: file_in(found, "OUT"),

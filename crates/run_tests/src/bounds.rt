@@ -2,7 +2,7 @@
 
 use crate::runs::{Ended, ran_by};
 use byte_io::memory::MemShelf;
-use pdb_program::Host;
+use pdb_program::RunHost;
 use samples::HoldingGate;
 use samples::files::{TILE_1, TILE_3, TILE_24, TILES_12, TILES_123};
 use samples::logs::{BRANCHES, CITATION, LEAF, UNSOLVABLE};
@@ -142,7 +142,7 @@ fn checked_by<'w, H: Threads + Wait + Sync, G: Gate + Sync>(
     }
     let mut shelf = MemShelf::of(alloc, &FILES)?;
     let mut reader = b"".as_slice();
-    let host = Host { rt, alloc, gate };
+    let host = RunHost { rt, alloc, gate };
     ran_by(&host, all.as_slice(), &mut shelf, &mut reader)
 }
 

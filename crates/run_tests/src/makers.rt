@@ -3,7 +3,7 @@
 use crate::runs::{Ended, ran, ran_by};
 use byte_io::memory::MemShelf;
 use byte_io::shelf::Shelf;
-use pdb_program::Host;
+use pdb_program::RunHost;
 use samples::files::{TILE_24, TILES_12, TILES_123};
 use samples::{HoldingGate, LeastCosts};
 use std::alloc::{AllocError, Global};
@@ -138,7 +138,7 @@ fn two_workers_check_a_made_table_side_by_side(rt: HostRuntime) -> Result<(), Fa
     let words = ["make-table", "3", "14", "o", "--workers", "2"];
     let line = "exact side 3 mask 14 entries 2016 unreachable 0 deepest 12";
     let want = format!(in alloc; "sha256 {DIGEST_OF_14}\n{line}\n")?;
-    let host = Host {
+    let host = RunHost {
         rt: &rt,
         alloc,
         gate: &gate,
@@ -340,7 +340,7 @@ fn two_workers_check_the_table_of_a_search_side_by_side(rt: HostRuntime) -> Resu
     // The first two jobs of all are the table's.
     let gate = HoldingGate::new(&[0], &[1]).among(0..2);
     let words = ["solve", "one", "sets", "o", "three", "--workers", "2"];
-    let host = Host {
+    let host = RunHost {
         rt: &rt,
         alloc,
         gate: &gate,
@@ -400,7 +400,7 @@ fn a_gate_is_told_of_what_makers_do(rt: HostRuntime) -> Result<(), Fail> {
             counts: AtomicU64::new(0),
             entries: AtomicU64::new(0),
         };
-        let host = Host {
+        let host = RunHost {
             rt: &rt,
             alloc,
             gate: &gate,

@@ -2,7 +2,7 @@
 
 use crate::runs::{Ended, owned, ran, ran_by};
 use byte_io::memory::MemShelf;
-use pdb_program::{Host, run};
+use pdb_program::{RunHost, run};
 use sample_streams::{Failing, SampleReader, SampleWriter};
 use samples::files::{TILE_1, TILES_12, TILES_123};
 use samples::{HoldingGate, LeastCosts};
@@ -258,7 +258,7 @@ fn searches_of<H: Threads + Wait + Sync>(
         all.push(word)?;
     }
     let mut reader = b"".as_slice();
-    let host = Host {
+    let host = RunHost {
         rt,
         alloc,
         gate: &gate,
@@ -468,7 +468,7 @@ fn two_workers_answer_claims_side_by_side(rt: HostRuntime) -> Result<(), Fail> {
     let mut shelf = MemShelf::of(alloc, &FILES)?;
     let mut reader = b"".as_slice();
     let words = ["prove", "one_false", "sets", "f12", "--workers", "2"];
-    let host = Host {
+    let host = RunHost {
         rt: &rt,
         alloc,
         gate: &gate,

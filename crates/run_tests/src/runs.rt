@@ -3,7 +3,7 @@
 use byte_io::memory::MemShelf;
 use byte_io::shelf::Shelf;
 use byte_io::sources::Source;
-use pdb_program::{Host, run};
+use pdb_program::{RunHost, run};
 use std::alloc::{AllocError, Global};
 use std::sync::Wait;
 use std::test::Fail;
@@ -81,7 +81,7 @@ pub fn owned(alloc: Global, words: &[&str]) -> Result<Vec<String>, AllocError> {
 
 /// A run of these words on a host, over a shelf and a reader.
 pub fn ran_by<H: Threads + Wait + Sync, S: Shelf, R: Source, G: Gate + Sync>(
-    host: &Host<'_, H, G>,
+    host: &RunHost<'_, H, G>,
     words: &[&str],
     shelf: &mut S,
     reader: &mut R,
@@ -102,7 +102,7 @@ pub fn ran<H: Threads + Wait + Sync, S: Shelf, R: Source>(
     shelf: &mut S,
     reader: &mut R,
 ) -> Result<Ended, AllocError> {
-    let host = Host {
+    let host = RunHost {
         rt,
         alloc,
         gate: &OpenGate,
@@ -132,7 +132,12 @@ pub fn checked_by<H: Threads + Wait + Sync, G: Gate + Sync>(
     let mut shelf = MemShelf::of(alloc, &[("a table", file)])?;
     let mut reader = b"".as_slice();
     let words = ["table", "a table", "--workers", workers];
-    ran_by(&Host { rt, alloc, gate }, &words, &mut shelf, &mut reader)
+    ran_by(
+        &RunHost { rt, alloc, gate },
+        &words,
+        &mut shelf,
+        &mut reader,
+    )
 }
 
 /// What is said of a table file: its digest, the line below, and the status.

@@ -2,7 +2,7 @@
 
 use crate::runs::{Ended, owned};
 use byte_io::memory::MemShelf;
-use pdb_program::{ArgumentFault, Call, Host, start};
+use pdb_program::{ArgumentFault, ProgramCall, RunHost, start};
 use pdb_words::unreadable_word;
 use std::alloc::Global;
 use std::sync::Wait;
@@ -20,8 +20,8 @@ fn started<H: Threads + Wait + Sync>(
     let mut reader = b"1 0 2 3 ; L".as_slice();
     let mut out = b"before\n".to_vec(alloc)?;
     let mut err = Vec::new(alloc);
-    let call = Call {
-        host: Host {
+    let call = ProgramCall {
+        host: RunHost {
             rt,
             alloc,
             gate: &OpenGate,

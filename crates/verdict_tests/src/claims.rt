@@ -5,7 +5,7 @@ ghost use Rattle.std.specs.Prelude.{◌<◌, ◌≤◌};
 use crate::sha256;
 use crate::telling::{io_over, joined, tells};
 use byte_io::memory::MemShelf;
-use pdb_request::{Claim, LogCheck};
+use pdb_request::{LogCheck, LogClaim};
 use pdb_run::Status;
 use pdb_verdict::{Fault, Inputs, Verdict, run_log_check, verify};
 use samples::HoldingGate;
@@ -352,7 +352,7 @@ fn optima_are_refused_for_their_moves_before_their_tables(rt: HostRuntime) -> Re
 /// A check of these files on `shelf`, by two workers.
 fn check_of(
     alloc: Global,
-    claim: Claim,
+    claim: LogClaim,
     sets: &'static str,
     log: &'static str,
     second: &'static str,
@@ -389,9 +389,9 @@ fn claims_are_told_behind_the_digests_of_their_tables(rt: HostRuntime) -> Result
     let mut out = Vec::new(alloc);
     let mut reader = b"".as_slice();
     let mut io = io_over(&mut shelf, &mut reader, &mut out);
-    let check = check_of(alloc, Claim::Bound, "sets", "log", "table")?;
+    let check = check_of(alloc, LogClaim::Bound, "sets", "log", "table")?;
     let bound = run_log_check(&check, &workers, &mut io);
-    let check = check_of(alloc, Claim::Optimum, "sets", "log", "table")?;
+    let check = check_of(alloc, LogClaim::Optimum, "sets", "log", "table")?;
     let optimal = run_log_check(&check, &workers, &mut io);
     assert!(rt; bound == Status::Refused && optimal == Status::Refused);
     let told = [
@@ -413,8 +413,8 @@ fn claims_are_read_in_the_order_of_their_names(rt: HostRuntime) -> Result<(), Fa
     let alloc = rt.alloc();
     let mut shelf = shelf(alloc)?;
     let workers = Workers::new(&rt, alloc, 2, &OpenGate);
-    let no_sets = check_of(alloc, Claim::Bound, "none", "no log", "table")?;
-    let no_table = check_of(alloc, Claim::Bound, "sets", "log", "no table")?;
+    let no_sets = check_of(alloc, LogClaim::Bound, "none", "no log", "table")?;
+    let no_table = check_of(alloc, LogClaim::Bound, "sets", "log", "no table")?;
     let mut out = Vec::new(alloc);
     let mut reader = b"".as_slice();
     let mut io = io_over(&mut shelf, &mut reader, &mut out);

@@ -4,7 +4,7 @@ use crate::sha256;
 use crate::telling::{io_over, joined};
 use byte_io::memory::MemShelf;
 use pdb_keep::run_solve;
-use pdb_request::{Claim, LogCheck, Search};
+use pdb_request::{LogCheck, LogClaim, Solve};
 use pdb_run::Status;
 use pdb_verdict::run_log_check;
 use samples::files::{TILE_24, TILES_12, TILES_123, with_byte};
@@ -52,7 +52,7 @@ fn solved<H: Threads + Wait + Sync>(
             ("table", task.table),
         ],
     )?;
-    let search = Search {
+    let search = Solve {
         board: "board",
         sets: "sets",
         out: "o",
@@ -96,7 +96,7 @@ fn verdict_on<H: Threads + Wait + Sync>(
     workers: &Workers<'_, H, OpenGate>,
 ) -> Result<(Status, Vec<u8>), AllocError> {
     let check = LogCheck {
-        claim: Claim::Optimum,
+        claim: LogClaim::Optimum,
         text: "puzzle",
         sets: "sets",
         log: "log",
@@ -288,8 +288,8 @@ fn search_of(
     board: &'static str,
     sets: &'static str,
     second: &'static str,
-) -> Result<Search<'static, &'static str>, AllocError> {
-    Ok(Search {
+) -> Result<Solve<'static, &'static str>, AllocError> {
+    Ok(Solve {
         board,
         sets,
         out: "o",
@@ -317,7 +317,7 @@ fn shelf(alloc: Global) -> Result<MemShelf, AllocError> {
 fn ended_by<H: Threads + Wait + Sync>(
     rt: &H,
     alloc: Global,
-    search: &Search<'_, &str>,
+    search: &Solve<'_, &str>,
 ) -> Result<(Status, Vec<u8>), Fail> {
     let workers = Workers::new(rt, alloc, 2, &OpenGate);
     let mut shelf = shelf(alloc)?;
@@ -344,7 +344,7 @@ fn inputs_of_a_search_are_read_in_the_order_of_their_names(rt: HostRuntime) -> R
     let alloc = rt.alloc();
     let no_board = search_of(alloc, "no board", "none", "table")?;
     let no_table = search_of(alloc, "board", "sets", "no table")?;
-    let cases: [(&Search<'_, &str>, &[u8]); 2] = [
+    let cases: [(&Solve<'_, &str>, &[u8]); 2] = [
         (&no_board, b"fault read no board\n"),
         (&no_table, b"fault read no table\n"),
     ];

@@ -4,7 +4,7 @@ use crate::telling::io_over;
 use byte_io::memory::MemShelf;
 use pdb_keep::{run_make_table, run_solve};
 use pdb_prove::run_prove;
-use pdb_request::{Claim, LogCheck, MakeTable, Prove, Replay, Search, TableCheck};
+use pdb_request::{LogCheck, LogClaim, MakeTable, Prove, Replay, Solve, TableCheck};
 use pdb_run::{Io, Status};
 use pdb_verdict::{run_log_check, run_replay, run_table};
 use sample_streams::{FailingShelf, ShelfFault};
@@ -43,7 +43,7 @@ enum Command {
 /// The check of the log, of what is claimed of a text of this name.
 fn check_of(
     alloc: Global,
-    claim: Claim,
+    claim: LogClaim,
     text: &'static str,
 ) -> Result<LogCheck<&'static str>, AllocError> {
     Ok(LogCheck {
@@ -58,8 +58,8 @@ fn check_of(
 }
 
 /// A search on the board, whose log is to be kept as `o`.
-fn search(alloc: Global) -> Result<Search<'static, &'static str>, AllocError> {
-    Ok(Search {
+fn search(alloc: Global) -> Result<Solve<'static, &'static str>, AllocError> {
+    Ok(Solve {
         board: "board",
         sets: "sets",
         out: "o",
@@ -72,7 +72,7 @@ fn search(alloc: Global) -> Result<Search<'static, &'static str>, AllocError> {
 }
 
 /// Claims on the board, which are to be proved.
-fn proving(alloc: Global) -> Result<Prove<'static>, AllocError> {
+fn proving(alloc: Global) -> Result<Prove<Option<&'static str>, &'static str>, AllocError> {
     Ok(Prove {
         claims: Some("puzzle"),
         sets: "sets",
@@ -111,8 +111,12 @@ fn ended<H: Threads + Wait + Sync, I: Io>(
             };
             run_table(&check, workers, io)
         }
-        Command::Bound => run_log_check(&check_of(alloc, Claim::Bound, "board")?, workers, io),
-        Command::Optimal => run_log_check(&check_of(alloc, Claim::Optimum, "puzzle")?, workers, io),
+        Command::Bound => run_log_check(&check_of(alloc, LogClaim::Bound, "board")?, workers, io),
+        Command::Optimal => run_log_check(
+            &check_of(alloc, LogClaim::Optimum, "puzzle")?,
+            workers,
+            io,
+        ),
         Command::Solve => run_solve(&search(alloc)?, workers, io),
         Command::MakeTable => run_make_table(&PATTERN, workers, io),
         Command::Prove => run_prove(&proving(alloc)?, workers, io),

@@ -1,7 +1,9 @@
 //! What words ask for.
 
 use crate::readings::{behind, expect_request};
-use pdb_request::{Claim, LogCheck, MakeTable, Parts, Prove, Replay, Request, Search, TableCheck};
+use pdb_request::{
+    JoinParts, LogCheck, LogClaim, MakeTable, Prove, Replay, Request, Solve, TableCheck,
+};
 use std::alloc::{AllocError, Global};
 use std::test::Fail;
 
@@ -45,7 +47,7 @@ fn words_ask_for_a_table(rt: HostRuntime) -> Result<(), Fail> {
 /// A check of the log `l`, with these tables.
 fn log_check<'a>(
     alloc: Global,
-    claim: Claim,
+    claim: LogClaim,
     tables: &[&'a str],
     workers: u8,
     fold: bool,
@@ -83,9 +85,9 @@ fn words_name_the_files_of_a_log(rt: HostRuntime) -> Result<(), Fail> {
         ),
     ];
     for (words, tables, workers) in cases {
-        let bound = log_check(alloc, Claim::Bound, tables, workers, false)?;
+        let bound = log_check(alloc, LogClaim::Bound, tables, workers, false)?;
         expect_request(alloc, behind(alloc, "bound", words)?.as_slice(), &bound)?;
-        let optimal = log_check(alloc, Claim::Optimum, tables, workers, false)?;
+        let optimal = log_check(alloc, LogClaim::Optimum, tables, workers, false)?;
         expect_request(alloc, behind(alloc, "optimal", words)?.as_slice(), &optimal)?;
     }
     Ok(())
@@ -121,9 +123,9 @@ fn words_ask_for_folded_tables(rt: HostRuntime) -> Result<(), Fail> {
         (&["c", "s", "l", "fold"], &["fold"], 1, false),
     ];
     for (words, tables, workers, fold) in cases {
-        let bound = log_check(alloc, Claim::Bound, tables, workers, fold)?;
+        let bound = log_check(alloc, LogClaim::Bound, tables, workers, fold)?;
         expect_request(alloc, behind(alloc, "bound", words)?.as_slice(), &bound)?;
-        let optimal = log_check(alloc, Claim::Optimum, tables, workers, fold)?;
+        let optimal = log_check(alloc, LogClaim::Optimum, tables, workers, fold)?;
         expect_request(alloc, behind(alloc, "optimal", words)?.as_slice(), &optimal)?;
     }
     Ok(())
@@ -223,7 +225,7 @@ fn words_ask_for_a_search(rt: HostRuntime) -> Result<(), Fail> {
     ];
     for (words, tables, (workers, fold, budget)) in cases {
         let alloc = rt.alloc();
-        let wanted = Request::Search(Search {
+        let wanted = Request::Solve(Solve {
             board: "b",
             sets: "s",
             out: "o",
@@ -312,7 +314,7 @@ fn words_ask_for_parts_to_be_joined(rt: HostRuntime) -> Result<(), Fail> {
     ];
     for (words, board, bound, count, answers) in cases {
         let alloc = rt.alloc();
-        let wanted = Request::Parts(Parts {
+        let wanted = Request::JoinParts(JoinParts {
             board,
             bound,
             count,

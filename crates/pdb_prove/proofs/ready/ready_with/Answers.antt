@@ -11,7 +11,7 @@ invariant_of-result c = record {
 
 -- where no board has another side, the claims and the bundle are ready to be answered
 pub returns-in-None-clause-ok : goal.returns-in-None-clause-ok
-returns-in-None-clause-ok c = λ fold text sets tables are makes. record {
+returns-in-None-clause-ok c = λ fold files are makes. record {
   are_claims = are;
   is_bundle = rw c.in_ok-bundle.was at makes;
   one_side = rw c.as_slice.ensures.value at c.in-None.ensures.none;

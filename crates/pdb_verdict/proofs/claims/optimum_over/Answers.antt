@@ -17,13 +17,13 @@ returns-in_err-solution g c = λ fold text sets tables spelt is_bundle.
     rw refused (inl (joined-parts text c.args.moves.now c.args.board.now spelt ∙ ap (solved_by c.args.board.now) replayed))
 
 -- a log that proves no bound refuses the optimum, with the fault of the log
-pub returns-in_err-bound_over : goal.returns-in_err-bound_over
-returns-in_err-bound_over g c = λ fold text sets tables spelt is_bundle.
+pub returns-in_err-check_log_by : goal.returns-in_err-check_log_by
+returns-in_err-check_log_by g c = λ fold text sets tables spelt is_bundle.
     let board = c.args.board.now in
     let moves = c.args.moves.now in
-    let why = c.in_err-bound_over.field-0.0 in
-    let found = log_found fold tables sets board c.args.log.now c.args.bundle.now is_bundle why c.in_err-bound_over.ensures in
-    let refused : c.from_residual-in_err-bound_over.result ≡ Err (of_log why) = search (rules, c.from_residual-in_err-bound_over.ensures) in
+    let why = c.in_err-check_log_by.field-0.0 in
+    let found = log_found fold tables sets board c.args.log.now c.args.bundle.now is_bundle why c.in_err-check_log_by.ensures.fault in
+    let refused : c.from_residual-in_err-check_log_by.result ≡ Err (of_log why) = search (rules, c.from_residual-in_err-check_log_by.ensures) in
     let parts = joined-parts text moves board spelt ∙ ap (solved_by board) (rw c.replay.ensures.exact at c.in_ok-solution.was) in
     rw refused (optimum_by (log_files fold (puzzle_of text moves) sets c.args.log.now tables) board c.in_ok-solution.solution parts (Err (of_log why)) found)
 
@@ -32,8 +32,8 @@ pub returns : goal.returns
 returns g c = λ fold text sets tables spelt is_bundle.
     let board = c.args.board.now in
     let moves = c.args.moves.now in
-    let bound = c.in_ok-bound_over.field-0 in
-    let found = bound_found fold tables sets board c.args.log.now c.args.bundle.now is_bundle bound c.in_ok-bound_over.ensures in
+    let bound = c.in_ok-check_log_by.field-0 in
+    let found = bound_found fold tables sets board c.args.log.now c.args.bundle.now is_bundle bound c.in_ok-check_log_by.ensures.ok in
     let parts = joined-parts text moves board spelt ∙ ap (solved_by board) (rw c.replay.ensures.exact at c.in_ok-solution.was) in
     rw c.optimum_of.ensures (optimum_by (log_files fold (puzzle_of text moves) sets c.args.log.now tables) board c.in_ok-solution.solution parts
     (Ok bound) found)

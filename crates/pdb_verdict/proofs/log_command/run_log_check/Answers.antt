@@ -1,6 +1,6 @@
 use Rattle.std.proofs.Common.{Bool, ap₂}
 use Rattle.pdb_request.specs.Asked.{log_check_shown}
-use Rattle.pdb_request.specs.declared.requests.Claim.{Claim}
+use Rattle.pdb_request.specs.declared.requests.LogClaim.{LogClaim}
 use Rattle.pdb_run.specs.Answers.{all_bytes}
 use Rattle.pdb_verdict.specs.Inputs.{log_claim}
 use Rattle.pdb_verdict.specs.Plans.{log_given}
@@ -13,7 +13,7 @@ pub returns-clause-ends : goal.returns-clause-ends
 returns-clause-ends g c =
     let check = c.args.check.now in
     let read = c.with_bytes-read in
-    let same = ap₂ (λ (claim : Claim) (fold : Bool). log_claim claim (record (files_read read.result) { fold = fold })) read.ensures.claim read.ensures.fold in
+    let same = ap₂ (λ (it : LogClaim) (fold : Bool). log_claim it (record (files_read read.result) { fold = fold })) read.ensures.claim read.ensures.fold in
     c.conclude.ensures.ends (all_bytes c.in-Ok.inputs.items) _ c.in-Ok.ensures.read
     (check_answered (log_given check.claim (log_check_shown check)) (files_read read.result) _ c.answer_log_check-answer.result
     read.ensures.inputs _ same c.answer_log_check-answer.ensures)

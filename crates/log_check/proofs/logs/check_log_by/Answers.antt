@@ -1,5 +1,5 @@
 use Rattle.log_check.proofs.GoodLemmas.{good_log_bounds}
-use Rattle.log_check.proofs.logs.proven_bound.Goals as goal
+use Rattle.log_check.proofs.logs.check_log_by.Goals as goal
 
 -- where all lemmas are good, no solution of the board has fewer moves than the last one's bound
 pub returns-in-Ok-None-clause-bounds : goal.returns-in-Ok-None-clause-bounds
