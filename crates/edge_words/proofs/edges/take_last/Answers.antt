@@ -34,7 +34,7 @@ loop-last-preserved c =
           subst (λ i. TellsOfMove p (with_last cells last) i (move_of number) w.in-Some.rises) tile told in
           subst (AreBitsUpTo p cells number (last + 1)) (sym w.words-is)
           (bits_next p cells number last c.loop-last.words c.loop-last.invariant
-          (omega arith) w.in-Some.rises tells w.from-then-has_cell.result w.noted.result w.from-then-has_cell.ensures
+          (omega arith) w.in-Some.rises (λ free. tells) w.from-then-has_cell.result w.noted.result w.from-then-has_cell.ensures
           (subst (λ i. IsWith w.in-Some.rises number (slice_index c.loop-last.words i) w.noted.result)
           (w.from.ensures ∙ sym w.from-then-has_cell.ensures) w.noted.ensures))
       | else-has_cell w ↦

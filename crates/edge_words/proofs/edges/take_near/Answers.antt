@@ -147,7 +147,7 @@ loop-last-preserved c =
             w.entry-before.result w.entry-after.result w.entry-before.ensures w.entry-after.ensures w.rise.result w.rise.ensures.differs) in
             subst (AreBitsUpTo p cells number (last + 1)) (sym w.words-is)
             (bits_next p cells number last c.loop-last.words c.loop-last.invariant.bits
-            (omega arith) w.in-Some.rises tells w.from-then-has_cell.result w.noted.result w.from-then-has_cell.ensures
+            (omega arith) w.in-Some.rises (λ free. tells) w.from-then-has_cell.result w.noted.result w.from-then-has_cell.ensures
             (subst (λ i. IsWith w.in-Some.rises number (slice_index c.loop-last.words i) w.noted.result)
             (w.from.ensures ∙ sym w.from-then-has_cell.ensures) w.noted.ensures))
         | else-has_cell w ↦
