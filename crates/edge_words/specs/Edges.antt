@@ -1,7 +1,7 @@
 -- Moves of tiles between the placements of runs.
-use Rattle.std.specs.Prelude.{◌≡◌, ◌≢◌, ℕ, ◌+◌, ◌-◌, ◌*◌, ◌/◌, ◌%◌, ◌<◌, ◌≤◌, not, true, false, Bool, List, MatchOption, Option, Some, length, slice_index, slice_set}
+use Rattle.std.specs.Prelude.{◌≡◌, ◌≢◌, ◌↔◌, ℕ, ◌+◌, ◌-◌, ◌*◌, ◌/◌, ◌%◌, ◌<◌, ◌≤◌, not, true, false, Bool, List, MatchOption, Option, Some, length, slice_index, slice_set}
 use Rattle.std.specs.Int.{bit_at}
-use Rattle.puz_board.specs.Masks.{has_bit}
+use Rattle.puz_board.specs.Masks.{has_bit, ones_below}
 use Rattle.puz_board.specs.Cells.{reverse_of, step_of}
 use Rattle.puz_board.specs.declared.moves.Move.{Move}
 use Rattle.pat_place.specs.Patterns.{ShownPattern, has}
@@ -67,6 +67,17 @@ pub record AreBitsUpTo (p : ShownPattern) (cells : List ℕ) (number end : ℕ) 
   pub room : length words ≡ 25
   pub done : (last : ℕ) → IsFree p.side cells last → last < end → IsToldBelow p (with_last cells last) (number + 1) (slice_index words last)
   pub left : (last : ℕ) → IsFree p.side cells last → end ≤ last → IsToldBelow p (with_last cells last) number (slice_index words last)
+
+-- the same of those in a mask from the lowest on, of which these are left
+pub record AreBitsLeft (p : ShownPattern) (cells : List ℕ) (number mask left : ℕ) (words : List ℕ) : Type 0 where
+  pub end : ℕ
+  pub above : (c : ℕ) → (bit_at left c ≡ 1) ↔ ((bit_at mask c ≡ 1) × (end ≤ c))
+  pub bits : AreBitsUpTo p cells number end words
+
+-- and so many of them are done
+pub record AreBitsLeftAt (p : ShownPattern) (cells : List ℕ) (number mask left place : ℕ) (words : List ℕ) : Type 0 where
+  pub lefts : AreBitsLeft p cells number mask left words
+  pub passed : place ≡ ones_below mask lefts.end
 
 -- the words of the run's placements
 pub record AreWordsOf (p : ShownPattern) (cells words : List ℕ) : Type 0 where
