@@ -5,7 +5,7 @@ use Rattle.std.specs.Bool.{OnTrue}
 use Rattle.std.specs.List.{AllByRecursion}
 use Rattle.std.specs.Prelude.{slice_index, slice_set}
 use Rattle.std.proofs.lemmas.Bool.{cases_eq, cases_lt}
-use Rattle.std.proofs.lemmas.List.{get_or-append-add, get_or_append_left, length-append, length-take-le}
+use Rattle.std.proofs.lemmas.List.{get_or-append-add, get_or-take, get_or_append_left, length-append, length-take-le}
 use Rattle.std.proofs.lemmas.Nat.{div-add-mod', div-mul-add, mul-add-lt, mul-le, same_from_place}
 use Rattle.std.proofs.Math.Nat.{pow-suc}
 use Rattle.pat_place.specs.Patterns.{IsPattern, ShownPattern}
@@ -13,6 +13,7 @@ use Rattle.pat_place.specs.Placements.{IsApart, IsFree, IsPlacement}
 use Rattle.tab_runs.specs.RunPlaces.{IsRun}
 use Rattle.tab_runs.specs.Runs.{with_last}
 use Rattle.tab_runs.proofs.RunAtLemmas.{apart_front, inside_front, same_last}
+use Rattle.edge_words.specs.Edges.{AreBefore}
 use Rattle.edge_words.specs.Fills.{AreAllTold, AreToldBelow, AreToldUpTo, IsFillable, IsFilled, IsSpan, place_in, run_count}
 use Rattle.edge_words.specs.Indexes.{index_count, index_in}
 use Rattle.edge_words.specs.Words.{AreEdgeWords, IsEdgeWord}
@@ -148,6 +149,41 @@ module _ (p : ShownPattern) where
                 | inr other ↦ inr (here.0, (let l = here.1 in omega arith))
               ]
             ]
+
+    -- the words of a run begin where those of the span's runs with lower indexes end
+    pub told_before : (cells : List ℕ) → (index : ℕ) → index_in p cells ≡ index → s.low ≤ index → index < s.high → (words : List ℕ)
+        → AreToldBelow p s index words → (start : ℕ) → start ≡ (index - s.low) * base → AreBefore p cells (take start words)
+    told_before cells index at from to words told start start_is = record {
+      each = λ others gap last run free some before fits.
+          let long : length (take start words) ≡ start = length-take-le start words (omega (arith, start_low)) in
+          let few : gap ≤ index - s.low = within gap last (omega arith) free.0 in
+          let there : s.low ≤ index_in p others = omega arith in
+          let parts : index_in p others - s.low + gap ≡ index - s.low = omega arith in
+          let spread : (index_in p others - s.low + gap) * base ≡ (index_in p others - s.low) * base + gap * base = omega arith in
+          let whole : (index_in p others - s.low + gap) * base ≡ (index - s.low) * base = ap (λ k. k * base) parts in
+          let least : 1 * base ≤ gap * base = mul-le 1 base gap base some (omega arith) in
+          let inside = free.0 in
+          let place : length (take start words) - gap * base + last ≡ place_in p s others last = omega arith in
+          let read : slice_index (take start words) (length (take start words) - gap * base + last) ≡ slice_index words (place_in p s others last) =
+          get_or-take start words (length (take start words) - gap * base + last) 0 (omega arith) ∙ ap (slice_index words) place in
+          subst (IsEdgeWord p (with_last others last)) (sym read)
+          (told.each others last run free there (omega arith) (omega arith));
+    }
+      where
+        start_low : start ≤ length words
+        start_low =
+            let all : (index - s.low) * base ≤ (s.high - s.low) * base = mul-le (index - s.low) base (s.high - s.low) base (omega arith) (omega arith) in
+            let size = told.size in
+            omega arith
+
+        within : (gap last : ℕ) → gap * base ≤ start → last < base → gap ≤ index - s.low
+        within gap last fits inside = elim (cases_lt (index - s.low) gap) [
+          | inl more ↦ absurd (
+              let next : suc (index - s.low) * base ≤ gap * base = mul-le (suc (index - s.low)) base gap base more (omega arith) in
+              let spread : suc (index - s.low) * base ≡ (index - s.low) * base + base = omega arith in
+              omega arith)
+          | inr le ↦ le
+        ]
 
     -- all of a run
     pub told_next : (index end : ℕ) (words : List ℕ) → base ≤ end → AreToldUpTo p s index end words → AreToldBelow p s (index + 1) words

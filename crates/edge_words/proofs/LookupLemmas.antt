@@ -16,25 +16,27 @@ use Rattle.puz_board.proofs.BoardLemmas.{side_of-board}
 use Rattle.puz_board.proofs.CellLemmas.{by_side, few_cells}
 use Rattle.puz_board.proofs.OnesLemmas.{ones_below-suc, ones_below-zero}
 use Rattle.pat_place.specs.Patterns.{IsPattern, ShownPattern, has, most_tiles, width}
-use Rattle.pat_place.specs.Placements.{IsFree, IsPlacement}
+use Rattle.pat_place.specs.Placements.{IsFree, IsPlacement, placement_of}
 use Rattle.pat_place.specs.Ranks.{IsRank, placements}
 use Rattle.pat_place.specs.Regions.{IsSlot}
 use Rattle.pat_place.proofs.CountLemmas.{few_placements, few_slots}
 use Rattle.pat_place.proofs.PatternLemmas.{few_tiles}
+use Rattle.pat_place.proofs.PlacementLemmas.{IsPlacement-of}
 use Rattle.pat_place.proofs.SetLemmas.{SameCells}
 use Rattle.pat_place.proofs.SlotLemmas.{slot_some}
 use Rattle.pat_place.proofs.RankLemmas.{IsRank-below, IsRank-one, count_of_placements, falling_fits}
 use Rattle.pat_place.proofs.WidthLemmas.{slot_within}
 use Rattle.tab_file.specs.Tables.{placement_count, slot_count}
-use Rattle.tab_rule.specs.ExactTables.{IsExactTable}
-use Rattle.tab_rule.proofs.LookLemmas.{entry_says}
+use Rattle.tab_rule.specs.ExactTables.{IsExactTable, SaysOfBoard}
+use Rattle.tab_rule.proofs.EntryLemmas.{entry_total}
+use Rattle.tab_rule.proofs.LookLemmas.{entry_says, free_blank}
 use Rattle.tab_runs.specs.Rows.{IsOpen, listed_below, row_length}
 use Rattle.tab_runs.specs.RowTables.{AreRowsOf, row_of}
 use Rattle.tab_runs.specs.RunPlaces.{IsFirstRank, IsRun, run_length}
 use Rattle.tab_runs.specs.Runs.{free_below, with_last}
 use Rattle.tab_runs.proofs.RunLemmas.{free-with_last, open_free, placed_last, with_last-free, with_last-here, with_last-other}
 use Rattle.tab_runs.proofs.RunRanks.{first_some, free_at, free_below-free, free_below-low, free_below-taken, free_below-zero}
-use Rattle.edge_words.specs.Lookups.{AreEntriesOf, SaysOfAll}
+use Rattle.edge_words.specs.Lookups.{AreEntriesOf, HaveEntries, SaysOfAll}
 
 -- the order of the cells is all the same
 pub free_below-same : (p q : List ℕ) → SameCells p q → (c : ℕ) → free_below p c ≡ free_below q c
@@ -290,3 +292,13 @@ module _ (p : ShownPattern) (pat : IsPattern p) (cells : List ℕ) (run : IsRun 
         where
           size : length (take many (drop start entries)) ≡ run_length p.side cells * slot_count p
           size = length-take-le many (drop start entries) (let end = run_end in let d = length-drop start entries in omega arith) ∙ many_is
+
+-- each board has an entry
+pub have_entries : (p : ShownPattern) (entries : List ℕ) → IsExactTable (record { pattern = p; entries = entries }) → HaveEntries p
+have_entries p entries is b board =
+    let pat = is.is_table.pattern in
+    let side : side_of b ≡ p.side = side_of-board p.side b board in
+    let good : IsBoard b = subst (λ n. IsBoardOf n b) (sym side) board in
+    let e = entry_total p pat entries (placement_of p.tiles b) (blank b) (IsPlacement-of b good p pat side) (free_blank p pat b good side) in
+    let right = is.exact (placement_of p.tiles b) e.1.slot e.1.number e.1.is_number in
+    (e.0, subst (SaysOfBoard p.tiles b) e.1.holds (right.boards b board refl e.1.is_slot))

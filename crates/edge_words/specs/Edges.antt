@@ -1,15 +1,18 @@
 -- Moves of tiles between the placements of runs.
-use Rattle.std.specs.Prelude.{◌≡◌, ◌≢◌, ℕ, ◌+◌, ◌/◌, ◌<◌, ◌≤◌, true, false, Bool, List, MatchOption, Option, Some, length, slice_index, slice_set}
+use Rattle.std.specs.Prelude.{◌≡◌, ◌≢◌, ◌↔◌, ℕ, ◌+◌, ◌-◌, ◌*◌, ◌/◌, ◌%◌, ◌<◌, ◌≤◌, not, true, false, Bool, List, MatchOption, Option, Some, length, slice_index, slice_set}
 use Rattle.std.specs.Int.{bit_at}
-use Rattle.puz_board.specs.Masks.{has_bit}
+use Rattle.puz_board.specs.Masks.{has_bit, ones_below}
 use Rattle.puz_board.specs.Cells.{reverse_of, step_of}
 use Rattle.puz_board.specs.declared.moves.Move.{Move}
 use Rattle.pat_place.specs.Patterns.{ShownPattern, has}
 use Rattle.pat_place.specs.Placements.{IsFree}
+use Rattle.tab_runs.specs.RunPlaces.{IsRun}
 use Rattle.tab_runs.specs.Runs.{with_last}
+use Rattle.edge_words.specs.Indexes.{index_in}
 use Rattle.edge_words.specs.Lookups.{IsRunOf, but_last}
 use Rattle.edge_words.specs.OddEdges.{HasOddEdge}
 use Rattle.edge_words.specs.Words.{IsEdgeWord, TellsOfMove, move_of}
+use Rattle.edge_words.specs.declared.edges.Earlier.{Earlier}
 use Rattle.edge_words.specs.declared.edges.Near.{Near}
 
 -- whether the move raises the least cost, or there is an odd edge
@@ -23,6 +26,21 @@ pub record IsNear (p : ShownPattern) (cells : List ℕ) (index : ℕ) (move : Mo
   pub to : near.to ≡ slice_index cells index
   pub run : IsRunOf p near.run
   pub moved : but_last p near.run.cells ≡ slice_set cells index near.from
+
+-- before the words of the run with these cells there end those of the runs with lower indexes, of some or of all
+pub record AreBefore (p : ShownPattern) (cells before : List ℕ) : Type 0 where
+  pub each : (others : List ℕ) (gap last : ℕ) → IsRun p others → IsFree p.side others last → 0 < gap → index_in p others + gap ≡ index_in p cells
+      → gap * (p.side * p.side) ≤ length before
+      → IsEdgeWord p (with_last others last) (slice_index before (length before - gap * (p.side * p.side) + last))
+
+-- the move with this number takes the blank to its tile from a free cell, and the words have the bits of the move back
+pub record IsEarlier (p : ShownPattern) (cells : List ℕ) (number : ℕ) (earlier : Earlier) : Type 0 where
+  pub odd : number % 2 ≡ 1
+  pub step : step_of p.side (slice_index cells (number / 4)) (reverse_of (move_of number)) ≡ Some earlier.from
+  pub free : IsFree p.side cells earlier.from
+  pub room : length earlier.words.now ≡ p.side * p.side
+  pub bits : (last : ℕ) → IsFree p.side cells last → last ≢ earlier.from
+      → TellsOfMove p (with_last cells last) (number / 4) (move_of number) (not (has_bit (slice_index earlier.words.now last) (number - 1)))
 
 -- the move takes the blank to that tile from no free cell
 abbrev pub HasNoOrigin : ShownPattern → List ℕ → ℕ → Move → Type 0
@@ -49,6 +67,17 @@ pub record AreBitsUpTo (p : ShownPattern) (cells : List ℕ) (number end : ℕ) 
   pub room : length words ≡ 25
   pub done : (last : ℕ) → IsFree p.side cells last → last < end → IsToldBelow p (with_last cells last) (number + 1) (slice_index words last)
   pub left : (last : ℕ) → IsFree p.side cells last → end ≤ last → IsToldBelow p (with_last cells last) number (slice_index words last)
+
+-- the same of those in a mask from the lowest on, of which these are left
+pub record AreBitsLeft (p : ShownPattern) (cells : List ℕ) (number mask left : ℕ) (words : List ℕ) : Type 0 where
+  pub end : ℕ
+  pub above : (c : ℕ) → (bit_at left c ≡ 1) ↔ ((bit_at mask c ≡ 1) × (end ≤ c))
+  pub bits : AreBitsUpTo p cells number end words
+
+-- and so many of them are done
+pub record AreBitsLeftAt (p : ShownPattern) (cells : List ℕ) (number mask left place : ℕ) (words : List ℕ) : Type 0 where
+  pub lefts : AreBitsLeft p cells number mask left words
+  pub passed : place ≡ ones_below mask lefts.end
 
 -- the words of the run's placements
 pub record AreWordsOf (p : ShownPattern) (cells words : List ℕ) : Type 0 where

@@ -12,6 +12,7 @@ use Rattle.tab_runs.specs.Rows.{row_length}
 use Rattle.tab_runs.specs.RowTables.{AreRowsOf, rows_for}
 use Rattle.tab_runs.specs.RunPlaces.{IsFirstRank, IsRun, run_length}
 use Rattle.tab_runs.specs.Runs.{free_below, with_last}
+use Rattle.edge_words.specs.StoredWords.{AreStrides}
 use Rattle.edge_words.specs.Words.{move_of}
 use Rattle.edge_words.specs.declared.lookups.Lookup.TheInside.{Inside}
 use Rattle.edge_words.specs.declared.runs.Run.{Run}
@@ -28,6 +29,11 @@ pub record IsStoredLookup (l : Inside) : Type 0 where
   pub listed : l.listed ≡ row_length l.pattern.side (length l.pattern.tiles)
   pub rows : l.rows ≡ rows_for l.pattern
   pub origins : AreOrigins l.pattern.side l.origins
+  pub strides : AreStrides l.pattern l.strides
+
+-- of each board of the pattern's side, some entry says the least cost, or that there is none
+abbrev pub HaveEntries : ShownPattern → Type 0
+HaveEntries p = (b : List ℕ) → IsBoardOf p.side b → (e : ℕ) × SaysOfBoard p.tiles b e
 
 -- the cells of all tiles but the last
 abbrev pub but_last : ShownPattern → List ℕ → List ℕ

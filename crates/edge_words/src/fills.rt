@@ -102,11 +102,11 @@ fn fill_run(
     ensures told { OnTrue result (AreToldBelow lookup.now span.now (index + 1) words.new) }
     ensures odd { OnFalse result (HasOddEdge lookup.now) }
 {
-    let Some(found) = words_of(lookup, run) else {
-        return false;
-    };
     let cells = lookup.pattern().side().cells();
     let start = (index - span.low) * usize::from(cells);
+    let Some(found) = words_of(lookup, run, &words[..start]) else {
+        return false;
+    };
     for last in 0..cells {
         words[start + usize::from(last)] = found[usize::from(last)];
     }

@@ -1,6 +1,6 @@
 //! The entries of a table, by runs.
 
-ghost use Rattle.std.specs.Prelude.{◌≡◌, ◌+◌, ◌*◌, ◌<◌, true, IfOk, IfSome, length};
+ghost use Rattle.std.specs.Prelude.{◌≡◌, ◌+◌, ◌-◌, ◌*◌, ◌^◌, ◌<◌, ◌≤◌, true, IfOk, IfSome, length};
 ghost use Rattle.puz_board.specs.Cells.{reverse_of, step_of};
 ghost use Rattle.puz_board.specs.Masks.{IsMaskOf};
 ghost use Rattle.pat_place.specs.Patterns.{IsPattern, has};
@@ -11,9 +11,11 @@ ghost use Rattle.tab_runs.specs.RunPlaces.{IsFirstRank, IsRun};
 ghost use Rattle.tab_runs.specs.Rows.{IsOpen, listed_below, row_length};
 ghost use Rattle.tab_runs.specs.RowTables.{AreRowsOf};
 ghost use Rattle.tab_runs.specs.Runs.{with_last};
-ghost use Rattle.edge_words.specs.Lookups.{AreEntriesOf, AreOrigins, IsRunOf, SaysOfAll, but_last};
+ghost use Rattle.edge_words.specs.Indexes.{index_count, most_words};
+ghost use Rattle.edge_words.specs.Lookups.{AreEntriesOf, AreOrigins, HaveEntries, IsRunOf, SaysOfAll, but_last};
 ghost use Rattle.edge_words.specs.Words.{move_of};
 
+use crate::indexes::strides_of;
 use crate::runs::Run;
 use pat_place::{Pattern, rank_among, slot_of, unrank};
 use puz_board::masks::{all_below, count_below};
@@ -38,6 +40,8 @@ pub(crate) struct Lookup<'a> {
     rows: RowTable,
     /// For each cell and move the cell from which the move leads there.
     origins: [Option<u8>; MOST_WAYS],
+    /// What a tile's cell counts in the index of a placement.
+    strides: [u32; 8],
 }
 
 impl<'a> Model for Lookup<'a> {
@@ -55,6 +59,7 @@ impl<'a> Model for Lookup<'a> {
 impl<'a> Lookup<'a> {
     /// The lookup of a table.
     pub(crate) fn new(alloc: Global, table: &CheckedTable<'a>) -> Result<Lookup<'a>, AllocError>
+        requires { index_count table.now.pattern ≤ most_words }
         ensures { IfOk result (λ pattern. pattern ≡ table.now.pattern) }
     {
         let pattern = table.pattern();
@@ -66,6 +71,7 @@ impl<'a> Lookup<'a> {
             listed: usize::from(pattern.side().cells()) - usize::from(pattern.size()),
             rows,
             origins: all_origins(pattern.side()),
+            strides: strides_of(&pattern),
         })
     }
 
@@ -74,6 +80,7 @@ impl<'a> Lookup<'a> {
     pub(crate) fn pattern(&self) -> Pattern
         ensures pattern { result ≡ self.now }
         ensures is_pattern { IsPattern self.now }
+        ensures entries { HaveEntries self.now }
     {
         self.pattern
     }
@@ -136,6 +143,17 @@ impl<'a> Lookup<'a> {
     {
         let _side = self.pattern.side();
         self.origins[usize::from(4 * cell + number % 4)]
+    }
+
+    /// What the cell of a tile, by its index in the pattern, counts in the index of a placement.
+    #[inline]
+    pub(crate) fn stride(&self, tile: usize) -> usize
+        requires { tile < length self.now.tiles }
+        ensures stride { result ≡ (self.now.side * self.now.side) ^ (length self.now.tiles - 1 - tile) }
+        ensures few { result < 2 ^ 32 }
+    {
+        let _side = self.pattern.side();
+        self.strides[tile] as usize
     }
 
     /// Where the row of a cell begins among the rows of a set.

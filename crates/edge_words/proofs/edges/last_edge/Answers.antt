@@ -1,12 +1,16 @@
-use Rattle.std.proofs.Common.{◌≡◌, ◌+◌, ◌∙◌, Some, sym, ap₂, subst, arith}
+use Rattle.std.proofs.Common.{◌≡◌, ℕ, ◌+◌, ◌-◌, ◌/◌, ◌<◌, ◌∙◌, Some, length, not, sym, ap, ap₂, subst, arith}
+use Rattle.std.specs.Prelude.{slice_index}
 use Rattle.puz_board.specs.Cells.{reverse_of, step_of}
+use Rattle.puz_board.specs.Masks.{has_bit}
 use Rattle.puz_board.proofs.CellLemmas.{few_cells}
 use Rattle.pat_place.specs.Placements.{IsFree}
 use Rattle.pat_place.proofs.ListLemmas.{Some-one}
+use Rattle.tab_runs.specs.Runs.{with_last}
 use Rattle.edge_words.specs.Lookups.{but_last}
-use Rattle.edge_words.specs.Words.{move_of}
+use Rattle.edge_words.specs.Words.{TellsOfMove, move_of}
 use Rattle.edge_words.proofs.LookupLemmas.{open_place}
-use Rattle.edge_words.proofs.RunMoveLemmas.{last_none, last_told}
+use Rattle.edge_words.proofs.RunMoveLemmas.{last_back, last_none, last_told}
+use Rattle.edge_words.proofs.WordLemmas.{bit_is, bit_told}
 use Rattle.edge_words.proofs.edges.last_edge.Goals as goal
 
 -- where the last tile's cell has no origin by the move, no board has the move, and the answer false tells of it
@@ -28,6 +32,29 @@ returns-then-not-has_cell c =
     let test = c.has_cell.ensures.1 one in
     let no = c.if-not-has_cell.true in
     cc)
+
+-- where the move leads to a lower cell, the bit of the move back is there, and its complement tells of the move
+pub returns-then-number-eq1 : goal.returns-then-number-eq1
+returns-then-number-eq1 c =
+    let p = c.args.lookup.now in
+    let cells = but_last p c.args.run.now.cells in
+    let number = c.args.number in
+    let last = c.args.last in
+    let from = c.in-Some.from in
+    let index : ℕ = length p.tiles - 1 in
+    let odd = c.if-number-eq1.true in
+    let words = c.args.words.now in
+    let step : step_of p.side last (reverse_of (move_of number)) ≡ Some from = sym c.origin.ensures.origin ∙ c.in-Some.is in
+    let free = (c.requires.run.free from).0 (c.has_cell.ensures.0 c.if-not-has_cell.false) in
+    let same : (number - 1) / 4 ≡ index = (let tile = c.requires.tile in omega arith) in
+    let found : c.has_cell-then-number-eq1.result ≡ has_bit (slice_index words from) (number - 1) =
+    bit_is c.has_cell-then-number-eq1.result (slice_index words c.from.result) (number - 1) c.has_cell-then-number-eq1.ensures
+    ∙ ap (λ i. has_bit (slice_index words i) (number - 1)) c.from.ensures in
+    let tells = bit_told p cells number last words c.requires.words from free (number - 1) (omega arith) in
+    subst (λ r. TellsOfMove p (with_last cells last) index (move_of number) (not r)) (sym found)
+    (last_back p c.pattern-pattern.ensures.is_pattern cells c.requires.run.run last c.requires.last c.pattern-pattern.ensures.entries number odd from step
+    (has_bit (slice_index words from) (number - 1))
+    (subst (λ i. TellsOfMove p (with_last cells from) i (move_of (number - 1)) (has_bit (slice_index words from) (number - 1))) same tells))
 
 -- the entry before the last tile's move is looked up at its cell's place in the row of the blank's cell
 pub entry-before-requires-clause-place : goal.entry-before-requires-clause-place

@@ -1,7 +1,11 @@
-use Rattle.edge_words.specs.Edges.{AreBitsUpTo}
+use Rattle.edge_words.specs.Edges.{AreBitsLeft}
 use Rattle.edge_words.specs.Lookups.{but_last}
 use Rattle.edge_words.proofs.edges.take_last.Given as goal
 
 -- the bits of the first cells
-abbrev pub invariant-loop-last : goal.invariant-loop-last
-invariant-loop-last l = AreBitsUpTo l.fn.lookup (but_last l.fn.lookup l.fn.run.cells) l.fn.number l.last l.words
+abbrev pub invariant-lasts : goal.invariant-lasts
+invariant-lasts l = AreBitsLeft l.fn.lookup (but_last l.fn.lookup l.fn.run.cells) l.fn.number l.fn.run.free l.left l.words
+
+-- the mask of the cells that are left, as a number
+abbrev pub decreases-lasts : goal.decreases-lasts
+decreases-lasts l = l.left

@@ -1,4 +1,8 @@
-use Rattle.std.proofs.Common.{◌≡◌, ◌+◌, ◌*◌, ◌/◌, ◌<◌, length, inl, inr, sym, ◌∙◌, ap, ap₂, subst, arith}
+use Rattle.std.specs.Int.{bit_at}
+use Rattle.std.proofs.lemmas.Nat.{mul-le}
+use Rattle.puz_board.proofs.BitLemmas.{in_below}
+use Rattle.tab_runs.specs.Rows.{row_length}
+use Rattle.std.proofs.Common.{ℕ, ◌≤◌, false, ◌≡◌, ◌+◌, ◌*◌, ◌/◌, ◌<◌, length, inl, inr, sym, ◌∙◌, ap, ap₂, subst, arith}
 use Rattle.std.specs.Prelude.{slice_index}
 use Rattle.std.proofs.lemmas.Bool.{cases_eq}
 use Rattle.puz_board.specs.Masks.{IsMaskOf}
@@ -12,8 +16,8 @@ use Rattle.edge_words.specs.Lookups.{but_last}
 use Rattle.edge_words.specs.Words.{TellsOfMove, move_of}
 use Rattle.edge_words.proofs.LookupLemmas.{few_below, mask_open, none_more, one_more, open_place}
 use Rattle.edge_words.proofs.RunMoveLemmas.{front_after, front_before, front_blocked, front_place, front_told}
-use Rattle.edge_words.proofs.WordLemmas.{bits_all, bits_next, bits_start, bits_still}
-use Rattle.edge_words.proofs.edges.take_near.Goals.{After-without-open, then-has_cell+in-Some, else-has_cell}
+use Rattle.edge_words.proofs.WordLemmas.{left_all, left_in, left_next_at, left_place, left_start_at}
+use Rattle.edge_words.proofs.edges.take_near.Goals.{After-without-open}
 use Rattle.edge_words.proofs.edges.take_near.Goals as goal
 
 -- the cells in which the last tile isn't in the way
@@ -21,158 +25,229 @@ opened : (c : After-without-open) → IsMaskOf c.without-open.result
     (IsFree c.args.lookup.now.side (with_last (but_last c.args.lookup.now c.args.run.now.cells) c.args.near.now.from))
 opened c =
     let p = c.args.lookup.now in
-    let pat = c.pattern.ensures.is_pattern in
+    let pat = c.pattern-pattern.ensures.is_pattern in
     let few = few_cells p.side pat.low pat.high in
     mask_open p.side (omega arith) (but_last p c.args.run.now.cells) c.args.run.now.free c.without-open.result c.args.near.now.from
     c.requires.run.free c.without-open.type_inv c.without-open.ensures.here c.without-open.ensures.others
+
+-- a free cell that isn't in the mask is the one to which the tile goes
+skip : (c : After-without-open) → (last : ℕ) → IsFree c.args.lookup.now.side (but_last c.args.lookup.now c.args.run.now.cells) last
+    → (bit_at c.without-open.result last ≡ 1 → ⊥)
+    → TellsOfMove c.args.lookup.now (with_last (but_last c.args.lookup.now c.args.run.now.cells) last) (c.args.number / 4) (move_of c.args.number) false
+skip c last free out =
+    let p = c.args.lookup.now in
+    let pat = c.pattern-pattern.ensures.is_pattern in
+    let cells = but_last p c.args.run.now.cells in
+    let near = c.args.near.now in
+    let low : c.args.number / 4 < length cells = (let t = c.requires.tile in let size = c.requires.run.run.size in omega arith) in
+    elim (cases_eq near.from last) [
+      | inl e ↦ front_blocked p pat cells c.requires.run.run last free (c.args.number / 4) (move_of c.args.number) low near c.requires.near e
+      | inr ne ↦ absurd (out ((opened c last).1 (free-with_last p.side cells near.from last free (λ e. ne (sym e)))))
+    ]
 
 -- the blank's cell before a near move is below 32, so that it can be taken out of the mask of free cells
 pub without-open-requires : goal.without-open-requires
 without-open-requires c =
     let p = c.args.lookup.now in
-    let pat = c.pattern.ensures.is_pattern in
+    let pat = c.pattern-pattern.ensures.is_pattern in
     let few = few_cells p.side pat.low pat.high in
     let low = c.requires.near.free.0 in
     omega arith
 
 -- before the first last cell, no word has the bit of the near move, and none of a row has been passed
-pub loop-last-init : goal.loop-last-init
-loop-last-init c = record {
-  bits = bits_start c.args.lookup.now (but_last c.args.lookup.now c.args.run.now.cells) c.args.number c.args.words.now c.requires.words;
-  place = sym (ones_below-zero c.without-open.result);
-}
+pub lasts-init : goal.lasts-init
+lasts-init c = left_start_at c.args.lookup.now (but_last c.args.lookup.now c.args.run.now.cells) c.args.number c.without-open.result c.args.words.now
+    c.requires.words
 
--- no more free cells were passed than cells, so that one can be added to their count
-pub overflow_add-place : goal.overflow_add-place
-overflow_add-place c =
-    let few = few_below c.without-open.result c.loop-last.last in
-    let place = c.loop-last.invariant.place in
-    let within = c.loop-last-test.true in
+-- a row's start and the count of cells passed fit
+pub overflow_add-row : goal.overflow_add-row
+overflow_add-row c =
+    let p = c.args.lookup.now in
+    let pat = c.pattern-pattern.ensures.is_pattern in
+    let cells = but_last p c.args.run.now.cells in
+    let number = c.args.number in
+    let near = c.args.near.now in
+    let last = c.first_of-last.result in
+    let few = few_cells p.side pat.low pat.high in
+    let low : number / 4 < length cells = (let t = c.requires.tile in let size = c.requires.run.run.size in omega arith) in
+    let at = (goal.at.overflow_add-row c).After-without-open in
+    let one = left_in p cells number c.without-open.result c.lasts.left c.lasts.words c.lasts.invariant.lefts (skip at) last
+    c.first_of-last.ensures.here c.first_of-last.ensures.lowest in
+    let there = with_last-free p.side cells near.from last ((opened at last).0 one) in
+    let place = left_place p cells number c.without-open.result c.lasts.left c.lasts.words c.lasts.invariant.lefts (skip at) last
+    c.first_of-last.ensures.here c.first_of-last.ensures.lowest c.lasts.place c.lasts.invariant.passed in
+    let below = few_below c.without-open.result last in
+    let inside = there.0.0 in
+    let from = c.requires.near.free.0 in
+    let row = c.row_start-row.ensures in
+    let most : near.from * row_length p.side (length p.tiles) ≤ 25 * 25 =
+    mul-le near.from (row_length p.side (length p.tiles)) 25 25 (omega arith) (omega arith) in
     record { fits = omega arith }
 
 -- before the near move, the last tile and the blank are in two free cells of the run
 pub entry-before-requires-clause-open : goal.entry-before-requires-clause-open
 entry-before-requires-clause-open c =
     let p = c.args.lookup.now in
+    let pat = c.pattern-pattern.ensures.is_pattern in
     let cells = but_last p c.args.run.now.cells in
-    let last = c.loop-last.last in
-    let there = with_last-free p.side cells c.args.near.now.from last
-    ((opened (goal.at.entry-before-requires-clause-open c).After-without-open last).0 (c.has_cell.ensures.0 c.if-has_cell.true)) in
-    let low : c.args.number / 4 < length cells = (let t = c.requires.tile in let size = c.requires.run.run.size in omega arith) in
-    front_before p c.pattern.ensures.is_pattern cells c.requires.run.run last there.0 (c.args.number / 4)
-    (move_of c.args.number) low c.args.near.now c.requires.near (λ e. there.1 (sym e))
+    let number = c.args.number in
+    let near = c.args.near.now in
+    let last = c.first_of-last.result in
+    let few = few_cells p.side pat.low pat.high in
+    let low : number / 4 < length cells = (let t = c.requires.tile in let size = c.requires.run.run.size in omega arith) in
+    let at = (goal.at.entry-before-requires-clause-open c).After-without-open in
+    let one = left_in p cells number c.without-open.result c.lasts.left c.lasts.words c.lasts.invariant.lefts (skip at) last
+    c.first_of-last.ensures.here c.first_of-last.ensures.lowest in
+    let there = with_last-free p.side cells near.from last ((opened at last).0 one) in
+    front_before p pat cells c.requires.run.run last there.0 (number / 4) (move_of number) low near c.requires.near (λ e. there.1 (sym e))
 
 -- the entry before the near move is looked up at the count of free cells passed in the row of the blank's cell
 pub entry-before-requires-clause-place : goal.entry-before-requires-clause-place
 entry-before-requires-clause-place c =
     let p = c.args.lookup.now in
-    let pat = c.pattern.ensures.is_pattern in
+    let pat = c.pattern-pattern.ensures.is_pattern in
+    let cells = but_last p c.args.run.now.cells in
+    let number = c.args.number in
+    let near = c.args.near.now in
+    let last = c.first_of-last.result in
     let few = few_cells p.side pat.low pat.high in
-    let side = c.side.ensures.side ∙ ap (λ q. q.side) c.pattern.ensures.pattern in
-    let count : c.cells-cells.result ≡ p.side * p.side = c.cells-cells.ensures.value ∙ ap₂ (λ m n. m * n) side side in
-    let within = c.loop-last-test.true in
-    ap₂ (λ a b. a + b) c.row_start-row.ensures (open_place p.side (omega arith)
-    (but_last p c.args.run.now.cells) c.args.run.now.free c.without-open.result c.args.near.now.from c.requires.run.free c.without-open.type_inv
-    c.without-open.ensures.here c.without-open.ensures.others
-    c.loop-last.last (omega arith) c.loop-last.place c.loop-last.invariant.place)
+    let low : number / 4 < length cells = (let t = c.requires.tile in let size = c.requires.run.run.size in omega arith) in
+    let at = (goal.at.entry-before-requires-clause-place c).After-without-open in
+    let one = left_in p cells number c.without-open.result c.lasts.left c.lasts.words c.lasts.invariant.lefts (skip at) last
+    c.first_of-last.ensures.here c.first_of-last.ensures.lowest in
+    let there = with_last-free p.side cells near.from last ((opened at last).0 one) in
+    let place = left_place p cells number c.without-open.result c.lasts.left c.lasts.words c.lasts.invariant.lefts (skip at) last
+    c.first_of-last.ensures.here c.first_of-last.ensures.lowest c.lasts.place c.lasts.invariant.passed in
+    let inside = there.0.0 in
+    ap₂ (λ a b. a + b) c.row_start-row.ensures (open_place p.side (omega arith) cells c.args.run.now.free c.without-open.result near.from c.requires.run.free
+    c.without-open.type_inv c.without-open.ensures.here c.without-open.ensures.others last inside c.lasts.place place)
 
 -- after the near move, the last tile and the blank are in two free cells of the run to which it leads
 pub entry-after-requires-clause-open : goal.entry-after-requires-clause-open
 entry-after-requires-clause-open c =
     let p = c.args.lookup.now in
+    let pat = c.pattern-pattern.ensures.is_pattern in
     let cells = but_last p c.args.run.now.cells in
-    let last = c.loop-last.last in
-    let there = with_last-free p.side cells c.args.near.now.from last
-    ((opened (goal.at.entry-after-requires-clause-open c).After-without-open last).0 (c.has_cell.ensures.0 c.if-has_cell.true)) in
-    let low : c.args.number / 4 < length cells = (let t = c.requires.tile in let size = c.requires.run.run.size in omega arith) in
-    front_after p c.pattern.ensures.is_pattern cells c.requires.run.run last there.0 (c.args.number / 4)
-    (move_of c.args.number) low c.args.near.now c.requires.near (λ e. there.1 (sym e))
+    let number = c.args.number in
+    let near = c.args.near.now in
+    let last = c.first_of-last.result in
+    let few = few_cells p.side pat.low pat.high in
+    let low : number / 4 < length cells = (let t = c.requires.tile in let size = c.requires.run.run.size in omega arith) in
+    let at = (goal.at.entry-after-requires-clause-open c).After-without-open in
+    let one = left_in p cells number c.without-open.result c.lasts.left c.lasts.words c.lasts.invariant.lefts (skip at) last
+    c.first_of-last.ensures.here c.first_of-last.ensures.lowest in
+    let there = with_last-free p.side cells near.from last ((opened at last).0 one) in
+    front_after p pat cells c.requires.run.run last there.0 (number / 4) (move_of number) low near c.requires.near (λ e. there.1 (sym e))
 
 -- the entry after the near move is looked up at the same count in the row of the cell that the tile left
 pub entry-after-requires-clause-place : goal.entry-after-requires-clause-place
 entry-after-requires-clause-place c =
     let p = c.args.lookup.now in
-    let pat = c.pattern.ensures.is_pattern in
+    let pat = c.pattern-pattern.ensures.is_pattern in
     let cells = but_last p c.args.run.now.cells in
-    let last = c.loop-last.last in
+    let number = c.args.number in
+    let near = c.args.near.now in
+    let last = c.first_of-last.result in
     let few = few_cells p.side pat.low pat.high in
-    let side = c.side.ensures.side ∙ ap (λ q. q.side) c.pattern.ensures.pattern in
-    let count : c.cells-cells.result ≡ p.side * p.side = c.cells-cells.ensures.value ∙ ap₂ (λ m n. m * n) side side in
-    let within = c.loop-last-test.true in
-    let there = with_last-free p.side cells c.args.near.now.from last
-    ((opened (goal.at.entry-after-requires-clause-place c).After-without-open last).0 (c.has_cell.ensures.0 c.if-has_cell.true)) in
-    let low : c.args.number / 4 < length cells = (let t = c.requires.tile in let size = c.requires.run.run.size in omega arith) in
-    ap₂ (λ a b. a + b) c.row_start-near_row.ensures (open_place p.side
-    (omega arith) cells c.args.run.now.free c.without-open.result c.args.near.now.from c.requires.run.free c.without-open.type_inv
-    c.without-open.ensures.here c.without-open.ensures.others
-    last (omega arith) c.loop-last.place c.loop-last.invariant.place ∙
-    front_place p pat cells c.requires.run.run last there.0 (c.args.number / 4) (move_of c.args.number) low c.args.near.now c.requires.near)
+    let low : number / 4 < length cells = (let t = c.requires.tile in let size = c.requires.run.run.size in omega arith) in
+    let at = (goal.at.entry-after-requires-clause-place c).After-without-open in
+    let one = left_in p cells number c.without-open.result c.lasts.left c.lasts.words c.lasts.invariant.lefts (skip at) last
+    c.first_of-last.ensures.here c.first_of-last.ensures.lowest in
+    let there = with_last-free p.side cells near.from last ((opened at last).0 one) in
+    let place = left_place p cells number c.without-open.result c.lasts.left c.lasts.words c.lasts.invariant.lefts (skip at) last
+    c.first_of-last.ensures.here c.first_of-last.ensures.lowest c.lasts.place c.lasts.invariant.passed in
+    let inside = there.0.0 in
+    ap₂ (λ a b. a + b) c.row_start-near_row.ensures (open_place p.side (omega arith) cells c.args.run.now.free c.without-open.result near.from c.requires.run.free
+    c.without-open.type_inv c.without-open.ensures.here c.without-open.ensures.others last inside c.lasts.place place ∙
+    front_place p pat cells c.requires.run.run last there.0 (number / 4) (move_of number) low near c.requires.near)
 
 -- where the entries on both sides of a near move don't differ by one, the pattern has an odd edge
 pub returns-in_default-clause-odd : goal.returns-in_default-clause-odd
 returns-in_default-clause-odd c =
     let p = c.args.lookup.now in
-    let cells = but_last p c.args.run.now.cells in
-    let last = c.loop-last.last in
-    let there = with_last-free p.side cells c.args.near.now.from last
-    ((opened (goal.at.returns-in_default-clause-odd c).After-without-open last).0 (c.has_cell.ensures.0 c.if-has_cell.true)) in
-    let low : c.args.number / 4 < length cells = (let t = c.requires.tile in let size = c.requires.run.run.size in omega arith) in
-    subst (IsToldOf p (with_last cells last) (c.args.number / 4) (move_of c.args.number)) c.in_default.is
-    (front_told p c.pattern.ensures.is_pattern cells c.requires.run.run last there.0 (c.args.number / 4)
-    (move_of c.args.number) low c.args.near.now c.requires.near (λ e. there.1 (sym e))
-    c.entry-before.result c.entry-after.result c.entry-before.ensures c.entry-after.ensures c.rise.result c.rise.ensures.differs)
-
--- where a near move is noted for one last cell more, or that cell isn't open, the words tell up to the next cell
-pub loop-last-preserved : goal.loop-last-preserved
-loop-last-preserved c =
-    let p = c.args.lookup.now in
-    let pat = c.pattern.ensures.is_pattern in
+    let pat = c.pattern-pattern.ensures.is_pattern in
     let cells = but_last p c.args.run.now.cells in
     let number = c.args.number in
-    let last = c.loop-last.last in
-    let from = c.args.near.now.from in
+    let near = c.args.near.now in
+    let last = c.first_of-last.result in
     let few = few_cells p.side pat.low pat.high in
-    let side = c.side.ensures.side ∙ ap (λ q. q.side) c.pattern.ensures.pattern in
-    let count : c.cells-cells.result ≡ p.side * p.side = c.cells-cells.ensures.value ∙ ap₂ (λ m n. m * n) side side in
-    let within = c.loop-last-test.true in
     let low : number / 4 < length cells = (let t = c.requires.tile in let size = c.requires.run.run.size in omega arith) in
-    let mask = opened (goal.at.loop-last-preserved c).After-without-open in
-    record {
-      bits = elim c.if-has_cell.branch [
-        | then-has_cell+in-Some w ↦
-            let there = with_last-free p.side cells from last ((mask last).0 (c.has_cell.ensures.0 w.if-has_cell.true)) in
-            let tells : TellsOfMove p (with_last cells last) (number / 4) (move_of number) w.in-Some.rises =
-            subst (IsToldOf p (with_last cells last) (number / 4) (move_of number)) w.in-Some.is
-            (front_told p pat cells c.requires.run.run last there.0 (number / 4) (move_of number) low c.args.near.now c.requires.near (λ e. there.1 (sym e))
-            w.entry-before.result w.entry-after.result w.entry-before.ensures w.entry-after.ensures w.rise.result w.rise.ensures.differs) in
-            subst (AreBitsUpTo p cells number (last + 1)) (sym w.words-is)
-            (bits_next p cells number last c.loop-last.words c.loop-last.invariant.bits
-            (omega arith) w.in-Some.rises tells w.from-then-has_cell.result w.noted.result w.from-then-has_cell.ensures
-            (subst (λ i. IsWith w.in-Some.rises number (slice_index c.loop-last.words i) w.noted.result)
-            (w.from.ensures ∙ sym w.from-then-has_cell.ensures) w.noted.ensures))
-        | else-has_cell w ↦
-            subst (AreBitsUpTo p cells number (last + 1)) (sym w.words-is)
-            (bits_still p cells number last c.loop-last.words c.loop-last.invariant.bits
-            (λ free. elim (cases_eq from last) [
-              | inl e ↦ front_blocked p pat cells c.requires.run.run last free (number / 4) (move_of number) low c.args.near.now c.requires.near e
-              | inr ne ↦ absurd (let test = c.has_cell.ensures.1 ((mask last).1 (free-with_last p.side cells from last free (λ e. ne (sym e)))) in
-                  let no = w.if-has_cell.false in cc)
-            ]))
-      ];
-      place = elim c.if-has_cell.branch [
-        | then-has_cell+in-Some w ↦ w.place-is ∙ ap (λ k. k + 1) c.loop-last.invariant.place
-            ∙ sym (one_more c.without-open.result last (c.has_cell.ensures.0 w.if-has_cell.true))
-        | else-has_cell w ↦
-            w.place-is ∙ c.loop-last.invariant.place ∙
-            sym (none_more c.without-open.result last (λ one. let test = c.has_cell.ensures.1 one in let no = w.if-has_cell.false in cc))
-      ];
-    }
+    let at = (goal.at.returns-in_default-clause-odd c).After-without-open in
+    let one = left_in p cells number c.without-open.result c.lasts.left c.lasts.words c.lasts.invariant.lefts (skip at) last
+    c.first_of-last.ensures.here c.first_of-last.ensures.lowest in
+    let there = with_last-free p.side cells near.from last ((opened at last).0 one) in
+    subst (IsToldOf p (with_last cells last) (number / 4) (move_of number)) c.in_default.is
+    (front_told p pat cells c.requires.run.run last there.0 (number / 4) (move_of number) low near c.requires.near (λ e. there.1 (sym e))
+    c.entry-before.result c.entry-after.result c.entry-before.ensures c.entry-after.ensures c.rise.result c.rise.ensures.differs)
 
--- after all last cells, the words tell of the near move too
+-- the word of a free cell is one of the words
+pub bounds-words-from : goal.bounds-words-from
+bounds-words-from c =
+    let p = c.args.lookup.now in
+    let pat = c.pattern-pattern.ensures.is_pattern in
+    let cells = but_last p c.args.run.now.cells in
+    let number = c.args.number in
+    let near = c.args.near.now in
+    let last = c.first_of-last.result in
+    let few = few_cells p.side pat.low pat.high in
+    let low : number / 4 < length cells = (let t = c.requires.tile in let size = c.requires.run.run.size in omega arith) in
+    let at = (goal.at.bounds-words-from c).After-without-open in
+    let one = left_in p cells number c.without-open.result c.lasts.left c.lasts.words c.lasts.invariant.lefts (skip at) last
+    c.first_of-last.ensures.here c.first_of-last.ensures.lowest in
+    let there = with_last-free p.side cells near.from last ((opened at last).0 one) in
+    let inside = there.0.0 in
+    let at_last = c.from.ensures in
+    let room = c.requires.words.room in
+    omega arith
+
+-- the same where it is written
+pub bounds-words-from-in-lasts : goal.bounds-words-from-in-lasts
+bounds-words-from-in-lasts c =
+    let p = c.args.lookup.now in
+    let pat = c.pattern-pattern.ensures.is_pattern in
+    let cells = but_last p c.args.run.now.cells in
+    let number = c.args.number in
+    let near = c.args.near.now in
+    let last = c.first_of-last.result in
+    let few = few_cells p.side pat.low pat.high in
+    let low : number / 4 < length cells = (let t = c.requires.tile in let size = c.requires.run.run.size in omega arith) in
+    let at = (goal.at.bounds-words-from-in-lasts c).After-without-open in
+    let one = left_in p cells number c.without-open.result c.lasts.left c.lasts.words c.lasts.invariant.lefts (skip at) last
+    c.first_of-last.ensures.here c.first_of-last.ensures.lowest in
+    let there = with_last-free p.side cells near.from last ((opened at last).0 one) in
+    let inside = there.0.0 in
+    let at_last = c.from-in-lasts.ensures in
+    omega arith
+
+-- where a near move is noted for the lowest cell, the others are left
+pub lasts-preserved : goal.lasts-preserved
+lasts-preserved c =
+    let p = c.args.lookup.now in
+    let pat = c.pattern-pattern.ensures.is_pattern in
+    let cells = but_last p c.args.run.now.cells in
+    let number = c.args.number in
+    let near = c.args.near.now in
+    let last = c.first_of-last.result in
+    let few = few_cells p.side pat.low pat.high in
+    let low : number / 4 < length cells = (let t = c.requires.tile in let size = c.requires.run.run.size in omega arith) in
+    let at = (goal.at.lasts-preserved c).After-without-open in
+    let one = left_in p cells number c.without-open.result c.lasts.left c.lasts.words c.lasts.invariant.lefts (skip at) last
+    c.first_of-last.ensures.here c.first_of-last.ensures.lowest in
+    let there = with_last-free p.side cells near.from last ((opened at last).0 one) in
+    let inside = there.0.0 in
+    let tells : TellsOfMove p (with_last cells last) (number / 4) (move_of number) c.in-Some.rises =
+    subst (IsToldOf p (with_last cells last) (number / 4) (move_of number)) c.in-Some.is
+    (front_told p pat cells c.requires.run.run last there.0 (number / 4) (move_of number) low near c.requires.near (λ e. there.1 (sym e))
+    c.entry-before.result c.entry-after.result c.entry-before.ensures c.entry-after.ensures c.rise.result c.rise.ensures.differs) in
+    left_next_at p cells number c.without-open.result c.lasts.left c.lasts.words c.lasts.invariant.lefts (skip at) last
+    c.first_of-last.ensures.here c.first_of-last.ensures.lowest c.without-left.result c.without-left.type_inv
+    (λ x h. in_below c.without-open.result 32 x c.without-open.type_inv h) c.without-left.ensures.here c.without-left.ensures.others (omega arith)
+    c.in-Some.rises tells c.from-in-lasts.result c.noted.result c.from-in-lasts.ensures
+    (subst (λ i. IsWith c.in-Some.rises number (slice_index c.lasts.words i) c.noted.result) (c.from.ensures ∙ sym c.from-in-lasts.ensures) c.noted.ensures)
+    c.lasts.place c.lasts.invariant.passed
+
+-- when no cell is left, the words tell of the near move too
 pub returns-clause-told : goal.returns-clause-told
 returns-clause-told c =
-    let p = c.args.lookup.now in
-    let side = c.side.ensures.side ∙ ap (λ q. q.side) c.pattern.ensures.pattern in
-    let count : c.cells-cells.result ≡ p.side * p.side = c.cells-cells.ensures.value ∙ ap₂ (λ m n. m * n) side side in
-    let done = c.loop-last-test.false in
-    bits_all p (but_last p c.args.run.now.cells) c.args.number c.loop-last.last c.loop-last.words (omega arith) c.loop-last.invariant.bits
+    left_all c.args.lookup.now (but_last c.args.lookup.now c.args.run.now.cells) c.args.number c.without-open.result c.lasts.left c.lasts.words
+    c.lasts.invariant.lefts (skip (goal.at.returns-clause-told c).After-without-open) c.lasts-test.false

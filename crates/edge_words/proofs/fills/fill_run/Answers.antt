@@ -3,8 +3,18 @@ use Rattle.std.specs.Prelude.{slice_index}
 use Rattle.tab_runs.specs.Runs.{with_last}
 use Rattle.edge_words.specs.Lookups.{but_last}
 use Rattle.edge_words.specs.Words.{IsEdgeWord}
-use Rattle.edge_words.proofs.FillLemmas.{place_low, told_more, told_next, told_start}
+use Rattle.edge_words.proofs.FillLemmas.{place_low, told_before, told_more, told_next, told_start}
 use Rattle.edge_words.proofs.fills.fill_run.Goals as goal
+
+-- where the words of the run begin, those of the span's runs with lower indexes end
+pub words_of-requires-clause-before : goal.words_of-requires-clause-before
+words_of-requires-clause-before c =
+    let p = c.args.lookup.now in
+    let s = c.args.span.now in
+    let side = c.side.ensures.side ∙ ap (λ q. q.side) c.pattern.ensures.pattern in
+    let count : c.cells-cells.result ≡ p.side * p.side = c.cells-cells.ensures.value ∙ ap₂ (λ m n. m * n) side side in
+    told_before p s (but_last p c.args.run.now.cells) c.args.index c.requires.index c.requires.span.1 c.requires.span.2 c.args.words.now c.requires.told
+    ((c.args.index - s.low) * c.from.result) (ap (λ n. (c.args.index - s.low) * n) (c.from.ensures ∙ count))
 
 -- before the first last cell of a run, the words are those of the runs with lower indexes
 pub loop-last-init : goal.loop-last-init

@@ -15,4 +15,5 @@ invariant_of-result c =
           (c.from-3.ensures ∙ c.size.ensures.size);
       rows = c.in_ok-rows.ensures;
       origins = subst (λ n. AreOrigins n c.all_origins.result) c.side-2.ensures.side c.all_origins.ensures;
+      strides = c.strides_of.ensures;
     }
