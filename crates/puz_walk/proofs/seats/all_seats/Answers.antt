@@ -30,16 +30,17 @@ loop-place-preserved c = elim c.if-tile-cells.branch [
         each = λ k none l tile. elim (cases_eq k place) [
           | inl e ↦
               let at : get_or c.if-tile-cells.seats k none ≡ w.seat_of.result =
-                  ap (λ xs. slice_index_or xs k none) w.seats-is
-                  ∙ ap (λ i. slice_index_or (slice_set c.loop-place.seats w.from-then-tile-cells.result w.seat_of.result) i none) (e ∙ sym w.from-then-tile-cells.ensures)
-                  ∙ get_or-set_same c.loop-place.seats w.from-then-tile-cells.result w.seat_of.result none low in
+              ap (λ xs. slice_index_or xs k none) w.seats-is
+              ∙ ap (λ i. slice_index_or (slice_set c.loop-place.seats w.from-then-tile-cells.result w.seat_of.result) i none)
+              (e ∙ sym w.from-then-tile-cells.ensures)
+              ∙ get_or-set_same c.loop-place.seats w.from-then-tile-cells.result w.seat_of.result none low in
               subst (λ i. IsSeatOf v (i / 128) (i / 4 % 32) (move_of i) (get_or c.if-tile-cells.seats k none)) (sym e)
               (subst (IsSeatOf v (place / 128) (place / 4 % 32) (move_of place)) (sym at)
               (subst (λ move. IsSeatOf v (place / 128) (place / 4 % 32) move w.seat_of.result) (move_at w.from.result place w.from.ensures) there))
           | inr ne ↦
               let at : get_or c.if-tile-cells.seats k none ≡ get_or c.loop-place.seats k none =
-                  ap (λ xs. slice_index_or xs k none) w.seats-is
-                  ∙ get_or-set_other c.loop-place.seats w.from-then-tile-cells.result k w.seat_of.result none (λ o. ne (o ∙ w.from-then-tile-cells.ensures)) in
+              ap (λ xs. slice_index_or xs k none) w.seats-is
+              ∙ get_or-set_other c.loop-place.seats w.from-then-tile-cells.result k w.seat_of.result none (λ o. ne (o ∙ w.from-then-tile-cells.ensures)) in
               subst (IsSeatOf v (k / 128) (k / 4 % 32) (move_of k)) (sym at) (c.loop-place.invariant.each k none (omega arith) tile)
         ];
       }

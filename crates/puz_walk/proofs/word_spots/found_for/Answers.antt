@@ -23,7 +23,8 @@ word-requires c =
     let low = c.if-table-words.true in
     let pattern = (have.each c.args.table (omega arith)).pattern c.index-words-table.result
     (get_or-slice_get c.bundle.inside.words.now c.args.table c.index-words-table.result low ∙ ap Some (sym c.index-words-table.is)) in
-    (c.args.board.now, subst (λ n. IsBoardOf n c.args.board.now) (c.requires ∙ ap (λ p. p.side) (sym pattern)) c.side-side.ensures.board, c.index_of-index.ensures)
+    let b = c.args.board.now in
+    (b, subst (λ n. IsBoardOf n b) (c.requires ∙ ap (λ p. p.side) (sym pattern)) c.side-side.ensures.board, c.index_of-index.ensures)
 
 -- what a table's words give of a board is the index and the word of the placement of the table's pattern
 pub returns-then-table-words : goal.returns-then-table-words

@@ -58,7 +58,8 @@ returns c b next from to step kept =
           let p = pattern_at v m.table in
           let moves = owner_moves v bundle words have c.args.set c.requires.set c.args.mv b next c.args.tile from to step owned.owner is in
           let found = (kept.each c.args.set c.requires.set).are is.number m is.member in
-          let word = subst (λ k. IsWordOn p (board_for m b) (slice_index c.args.spot.now.kept.words k)) (sym (c.from-2.ensures ∙ owned.is.place)) found.word_is in
+          let place = c.from-2.ensures ∙ owned.is.place in
+          let word = subst (λ k. IsWordOn p (board_for m b) (slice_index c.args.spot.now.kept.words k)) (sym place) found.word_is in
           owner_shifts v bundle words have c.args.set c.requires.set c.args.mv b next c.args.tile from to step owned.owner is c.raises.result
           (λ d least. c.raises.ensures p owned.owner.tile (move_for m c.args.mv) (board_for m b) (board_for m next) d moves owned.is.bit word least)
           _ (kept.each c.args.set c.requires.set).says
