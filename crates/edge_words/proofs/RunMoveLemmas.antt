@@ -20,7 +20,6 @@ use Rattle.tab_runs.specs.RunPlaces.{IsRun}
 use Rattle.tab_runs.specs.Runs.{with_last}
 use Rattle.tab_runs.proofs.RunLemmas.{free-with_last, has-with_last, open_free, open_moved, placed_last, run_moved, same_moved, with_last-free, with_last-here}
 use Rattle.edge_words.specs.Edges.{AreBefore, HasNoOrigin, IsNear, IsToldOf}
-use Rattle.edge_words.specs.Indexes.{index_in}
 use Rattle.edge_words.specs.Lookups.{HaveEntries, SaysOfAll, but_last}
 use Rattle.edge_words.specs.Words.{Differs, IsEdgeWord, TellsOfMove, move_of}
 use Rattle.edge_words.specs.declared.edges.Near.{Near}

@@ -149,7 +149,8 @@ impl<'a> Lookup<'a> {
     #[inline]
     pub(crate) fn stride(&self, tile: usize) -> usize
         requires { tile < length self.now.tiles }
-        ensures stride { result ≡ (self.now.side * self.now.side) ^ (length self.now.tiles - 1 - tile) }
+        ensures stride { let p = self.now in
+            result ≡ (p.side * p.side) ^ (length p.tiles - 1 - tile) }
         ensures few { result < 2 ^ 32 }
     {
         let _side = self.pattern.side();

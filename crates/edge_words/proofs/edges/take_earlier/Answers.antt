@@ -1,4 +1,4 @@
-use Rattle.std.proofs.Common.{◌≡◌, ◌+◌, ◌-◌, ◌*◌, ◌/◌, ◌<◌, ◌&&◌, length, not, true, false, inl, inr, sym, ◌∙◌, ap, ap₂, subst, arith}
+use Rattle.std.proofs.Common.{◌≡◌, ◌-◌, ◌*◌, ◌/◌, ◌<◌, ◌&&◌, length, not, inl, inr, sym, ◌∙◌, ap, ap₂, subst, arith}
 use Rattle.std.specs.Prelude.{slice_index}
 use Rattle.std.proofs.lemmas.Bool.{cases_eq}
 use Rattle.puz_board.specs.Masks.{IsMaskOf, has_bit}
@@ -6,7 +6,7 @@ use Rattle.puz_board.proofs.CellLemmas.{few_cells}
 use Rattle.pat_place.specs.Placements.{IsFree}
 use Rattle.tab_runs.specs.Runs.{with_last}
 use Rattle.tab_runs.proofs.RunLemmas.{free-with_last, with_last-free}
-use Rattle.edge_words.specs.Edges.{AreBitsUpTo, IsWith}
+use Rattle.edge_words.specs.Edges.{IsWith}
 use Rattle.edge_words.specs.Lookups.{but_last}
 use Rattle.edge_words.specs.Words.{TellsOfMove, move_of}
 use Rattle.edge_words.proofs.LookupLemmas.{mask_open}

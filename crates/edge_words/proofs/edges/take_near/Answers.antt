@@ -2,19 +2,18 @@ use Rattle.std.specs.Int.{bit_at}
 use Rattle.std.proofs.lemmas.Nat.{mul-le}
 use Rattle.puz_board.proofs.BitLemmas.{in_below}
 use Rattle.tab_runs.specs.Rows.{row_length}
-use Rattle.std.proofs.Common.{ℕ, ◌≤◌, false, ◌≡◌, ◌+◌, ◌*◌, ◌/◌, ◌<◌, length, inl, inr, sym, ◌∙◌, ap, ap₂, subst, arith}
+use Rattle.std.proofs.Common.{ℕ, ◌≤◌, false, ◌≡◌, ◌+◌, ◌*◌, ◌/◌, ◌<◌, length, inl, inr, sym, ◌∙◌, ap₂, subst, arith}
 use Rattle.std.specs.Prelude.{slice_index}
 use Rattle.std.proofs.lemmas.Bool.{cases_eq}
 use Rattle.puz_board.specs.Masks.{IsMaskOf}
 use Rattle.puz_board.proofs.CellLemmas.{few_cells}
-use Rattle.puz_board.proofs.OnesLemmas.{ones_below-zero}
 use Rattle.pat_place.specs.Placements.{IsFree}
 use Rattle.tab_runs.specs.Runs.{with_last}
 use Rattle.tab_runs.proofs.RunLemmas.{free-with_last, with_last-free}
-use Rattle.edge_words.specs.Edges.{AreBitsUpTo, IsToldOf, IsWith}
+use Rattle.edge_words.specs.Edges.{IsToldOf, IsWith}
 use Rattle.edge_words.specs.Lookups.{but_last}
 use Rattle.edge_words.specs.Words.{TellsOfMove, move_of}
-use Rattle.edge_words.proofs.LookupLemmas.{few_below, mask_open, none_more, one_more, open_place}
+use Rattle.edge_words.proofs.LookupLemmas.{few_below, mask_open, open_place}
 use Rattle.edge_words.proofs.RunMoveLemmas.{front_after, front_before, front_blocked, front_place, front_told}
 use Rattle.edge_words.proofs.WordLemmas.{left_all, left_in, left_next_at, left_place, left_start_at}
 use Rattle.edge_words.proofs.edges.take_near.Goals.{After-without-open}
@@ -157,7 +156,8 @@ entry-after-requires-clause-place c =
     let place = left_place p cells number c.without-open.result c.lasts.left c.lasts.words c.lasts.invariant.lefts (skip at) last
     c.first_of-last.ensures.here c.first_of-last.ensures.lowest c.lasts.place c.lasts.invariant.passed in
     let inside = there.0.0 in
-    ap₂ (λ a b. a + b) c.row_start-near_row.ensures (open_place p.side (omega arith) cells c.args.run.now.free c.without-open.result near.from c.requires.run.free
+    ap₂ (λ a b. a + b) c.row_start-near_row.ensures (open_place p.side (omega arith)
+    cells c.args.run.now.free c.without-open.result near.from c.requires.run.free
     c.without-open.type_inv c.without-open.ensures.here c.without-open.ensures.others last inside c.lasts.place place ∙
     front_place p pat cells c.requires.run.run last there.0 (number / 4) (move_of number) low near c.requires.near)
 
