@@ -1,5 +1,6 @@
 -- Moves between the placements of runs.
-use Rattle.std.proofs.Common.{◌≡◌, ◌≢◌, ℕ, suc, ◌+◌, ◌-◌, ◌*◌, ◌/◌, ◌%◌, ◌^◌, ◌<◌, ◌≤◌, not, Bool, true, false, eqb, List, [], ◌∷◌, drop, length, take, Option, Some, inl, inr, sym, ◌∙◌, ap, ap₂, subst, arith}
+use Rattle.std.proofs.Common.{◌≡◌, ◌≢◌, ℕ, suc, ◌+◌, ◌-◌, ◌*◌, ◌/◌, ◌%◌, ◌^◌, ◌<◌, ◌≤◌, not, Bool, true, false, eqb, List, [], ◌∷◌}
+use Rattle.std.proofs.Common.{drop, length, take, Option, Some, inl, inr, sym, ◌∙◌, ap, ap₂, subst, arith}
 use Rattle.std.specs.Prelude.{MatchOption, slice_index, slice_set}
 use Rattle.std.proofs.lemmas.Bool.{cases_Bool, cases_eq, or_left}
 use Rattle.std.proofs.lemmas.List.{get_or-drop, get_or-take, get_or_append_left, get_or_at, set-append_left}
