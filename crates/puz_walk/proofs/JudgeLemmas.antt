@@ -1,8 +1,8 @@
 -- Sums that a move changes, set by set.
-use Rattle.std.proofs.Common.{◌≡◌, ◌≢◌, ℕ, ◌+◌, ◌^◌, ◌<◌, ◌≤◌, Bool, true, false, List, length, slice_index, slice_set, Option, Some, None, inl, inr}
-use Rattle.std.proofs.Common.{sym, ◌∙◌, ap, subst, arith, get_or-set_same, get_or-set_other, length-set}
+use Rattle.std.proofs.Common.{◌≡◌, ◌≢◌, ℕ, ◌+◌, ◌^◌, ◌<◌, ◌≤◌, ◌&&◌, Bool, true, false, List, length, slice_index, slice_set, Option, Some, None, inl, inr}
+use Rattle.std.proofs.Common.{refl, sym, ◌∙◌, ap, subst, arith, get_or-set_same, get_or-set_other, length-set}
 use Rattle.std.specs.Int.{bit_at}
-use Rattle.std.proofs.lemmas.Bool.{cases_eq}
+use Rattle.std.proofs.lemmas.Bool.{cases_eq, true≢false}
 use Rattle.tab_rule.specs.declared.tables.Count.TheVariants.{Finite}
 use Rattle.set_sum.specs.Bundles.{ShownBundle, BundleSays, set_of}
 use Rattle.set_sum.proofs.SumLemmas.{set_once}
@@ -19,6 +19,11 @@ shifts_once : (rises : Option Bool) (d e f : ℕ) → Shifts rises d e → Shift
 shifts_once (Some true) d e f one other = let p : e ≡ d + 1 = one in let q : f ≡ d + 1 = other in omega arith
 shifts_once (Some false) d e f one other = let p : d ≡ e + 1 = one in let q : d ≡ f + 1 = other in omega arith
 shifts_once None d e f one other = let p : e ≡ d = one in let q : f ≡ d = other in omega arith
+
+-- where two facts hold together, each does
+pub both_are : (a b : Bool) → (a && b) ≡ true → (a ≡ true) × (b ≡ true)
+both_are true b is = (refl, is)
+both_are false b is = absurd (true≢false (sym is))
 
 -- ---- sets that are judged
 

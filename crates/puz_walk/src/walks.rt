@@ -20,7 +20,7 @@ pub trait Walk: Drop {
     /// Whether the board is the goal board.
     fn is_goal(&self) -> bool
         ensures goal { IsTrue result ↔ IsGoal (shown self.now).board }
-        ensures open { IsOpen (shown self.now) };
+        ensures is_open { IsOpen (shown self.now) };
 
     /// Moves the board, where the move leads to one of which solutions of fewer moves than one below the bound are still to be
     /// searched for. The answer is the step, by which the move is taken back.

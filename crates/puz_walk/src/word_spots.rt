@@ -101,14 +101,13 @@ pub(crate) fn judge(
         → GoesBeyond bundle.now next limit) }
 {
     let mut change = Change { rose: 0, fell: 0 };
+    let mut is_below = true;
     for set in 0..bundle.sets() {
         let rises = bundle.raises(spot, set, tile, mv);
-        if sum_after(spot.sums[usize::from(set)], rises) >= u16::from(limit) {
-            return None;
-        }
+        is_below &= sum_after(spot.sums[usize::from(set)], rises) < u16::from(limit);
         change = noted(change, set, rises);
     }
-    Some(change)
+    if is_below { Some(change) } else { None }
 }
 
 /// The sum after a move that raises it, lowers it, or leaves it.

@@ -18,7 +18,7 @@ pub search_part-returns-then-is_goal-clause-stopped : goal.search_part-returns-t
 search_part-returns-then-is_goal-clause-stopped g t c =
     let x = c.args.prefix.now in
     goal_solved g.W.Walk.shown (part_of x) x.ahead x.rank c.args.reached.now
-    (c.is_outside.ensures.inside c.if-is_outside.false) c.is_goal.ensures.«open» (c.if-is_goal.ensures.goal.0 refl) c.args.effort.now.letters.items
+    (c.is_outside.ensures.inside c.if-is_outside.false) c.is_goal.ensures.is_open (c.if-is_goal.ensures.goal.0 refl) c.args.effort.now.letters.items
     c.requires.none
 
 -- while letters of a part are to come, an open board without budget stops the search as spent
@@ -26,7 +26,7 @@ pub search_part-returns-then-effort-eq0-clause-stopped : goal.search_part-return
 search_part-returns-then-effort-eq0-clause-stopped g t c =
     let x = c.args.prefix.now in
     spent_stopped g.W.Walk.shown (part_of x) x.ahead x.rank c.args.reached.now
-    (c.is_outside.ensures.inside c.if-is_outside.false) c.is_goal.ensures.«open» c.args.effort.now c.if-effort-eq0.true
+    (c.is_outside.ensures.inside c.if-is_outside.false) c.is_goal.ensures.is_open c.args.effort.now c.if-effort-eq0.true
 
 -- while letters of a part are to come, a board whose moves are refuted is refuted, with itself expanded
 pub search_part-returns-clause-refuted : goal.search_part-returns-clause-refuted
@@ -42,7 +42,7 @@ search_part-returns-clause-refuted g t c =
     ok_as (IsRefuted (prefix_children_fail shown x r) (most_children 4 (bound_at shown r)) spent new)
     (IsRefuted (prefix_fails_at shown x r) (most_boards (bound_at shown r)) old new)
     (λ is. opened_refuted shown (part_of x) x.ahead x.rank r
-    (c.is_outside.ensures.inside c.if-is_outside.false) c.is_goal.ensures.«open» far old spent new one is)
+    (c.is_outside.ensures.inside c.if-is_outside.false) c.is_goal.ensures.is_open far old spent new one is)
     c.search_part_children.result c.search_part_children.ensures.refuted
 
 -- while letters of a part are to come, a board stops where its moves do
@@ -59,7 +59,7 @@ search_part-returns-clause-stopped g t c =
     err_as (λ stop. IsStop (prefix_children_fail shown x r) (is_solved_at shown r) (most_children 4 (bound_at shown r)) stop spent new)
     (λ stop. IsStop (prefix_fails_at shown x r) (is_solved_at shown r) (most_boards (bound_at shown r)) stop old new)
     (λ stop is. opened_stopped shown (part_of x) x.ahead x.rank r
-    (c.is_outside.ensures.inside c.if-is_outside.false) c.is_goal.ensures.«open» far old spent new one stop is)
+    (c.is_outside.ensures.inside c.if-is_outside.false) c.is_goal.ensures.is_open far old spent new one stop is)
     c.search_part_children.result c.search_part_children.ensures.stopped
 
 -- in the search of a part, a board's moves stop where the one up is refuted and the one down stops

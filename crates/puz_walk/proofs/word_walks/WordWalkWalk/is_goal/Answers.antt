@@ -4,5 +4,5 @@ use Rattle.puz_walk.proofs.WordWalkLemmas.{walk_open}
 use Rattle.puz_walk.proofs.word_walks.WordWalkWalk.is_goal.Goals as goal
 
 -- a walk by edge words whose board is compared with the goal is open
-pub returns-clause-open : goal.returns-clause-open
-returns-clause-open c = subst IsOpen c.self.view_is (walk_open c.self.inside c.self.invariant)
+pub returns-clause-is_open : goal.returns-clause-is_open
+returns-clause-is_open c = subst IsOpen c.self.view_is (walk_open c.self.inside c.self.invariant)
