@@ -79,9 +79,10 @@ lasts-preserved c =
     let told : TellsOfMove p (with_last cells last) (length p.tiles - 1) (move_of number) c.in-Some.rises =
     subst (IsToldOf p (with_last cells last) (length p.tiles - 1) (move_of number)) c.in-Some.is c.last_edge.ensures in
     left_next p cells number mask c.lasts.left c.lasts.words c.lasts.invariant (skip at) last
-    c.first_of-last.ensures.here c.first_of-last.ensures.lowest c.without-left.result c.without-left.type_inv
+    c.first_of-last.ensures.here c.first_of-last.ensures.lowest c.but_first-left.result c.but_first-left.type_inv
     (λ x one. let l = ((is.free x).0 (c.led_to-open.ensures.free x one)).0 in omega arith)
-    c.without-left.ensures.here c.without-left.ensures.others (omega arith) c.in-Some.rises
+    (c.but_first-left.ensures.here last c.first_of-last.ensures.here c.first_of-last.ensures.lowest)
+    (λ x few ne. c.but_first-left.ensures.others last c.first_of-last.ensures.here c.first_of-last.ensures.lowest x ne) (omega arith) c.in-Some.rises
     (subst (λ i. TellsOfMove p (with_last cells last) i (move_of number) c.in-Some.rises) tile told)
     c.from-in-lasts.result c.noted.result c.from-in-lasts.ensures
     (subst (λ i. IsWith c.in-Some.rises number (slice_index c.lasts.words i) c.noted.result) (c.from.ensures ∙ sym c.from-in-lasts.ensures) c.noted.ensures)
