@@ -1,6 +1,6 @@
 //! The words of all placements, run by run.
 
-ghost use Rattle.std.specs.Prelude.{◌≡◌, ◌≢◌, ℕ, ◌+◌, ◌-◌, ◌*◌, ◌<◌, ◌≤◌, true, List, MatchOption, length};
+ghost use Rattle.std.specs.Prelude.{◌≡◌, ◌≢◌, ℕ, ◌+◌, ◌-◌, ◌*◌, ◌/◌, ◌%◌, ◌<◌, ◌≤◌, true, List, MatchOption, length};
 ghost use Rattle.std.specs.Bool.{OnFalse, OnTrue};
 ghost use Rattle.std.specs.List.{AllByRecursion};
 ghost use Rattle.puz_board.specs.Masks.{IsMaskOf};
@@ -143,10 +143,39 @@ fn cells_at(pattern: &Pattern, index: usize) -> [u8; 8]
     let mut tile = usize::from(pattern.size()) - 1;
     while tile > 0 {
         tile -= 1;
-        cells[tile] = (rest % count) as u8;
-        rest /= count;
+        cells[tile] = last_digit(rest, count);
+        rest = without_digit(rest, count);
     }
     cells
+}
+
+/// The last digit of a number to the base that is the count of a board's cells. The bases of large boards stand here as
+/// constants, so that nothing is divided.
+#[inline]
+fn last_digit(number: usize, count: usize) -> u8
+    requires some { 0 < count }
+    requires few { count ≤ 25 }
+    ensures { result ≡ number % count }
+{
+    let digit = match count {
+        16 => number % 16,
+        25 => number % 25,
+        _ => number % count,
+    };
+    digit as u8
+}
+
+/// The number without its last digit.
+#[inline]
+fn without_digit(number: usize, count: usize) -> usize
+    requires { 0 < count }
+    ensures { result ≡ number / count }
+{
+    match count {
+        16 => number / 16,
+        25 => number / 25,
+        _ => number / count,
+    }
 }
 
 /// The cells as a mask, where no two of them are the same.

@@ -240,8 +240,10 @@ lasts-preserved c =
     (front_told p pat cells c.requires.run.run last there.0 (number / 4) (move_of number) low near c.requires.near (λ e. there.1 (sym e))
     c.entry-before.result c.entry-after.result c.entry-before.ensures c.entry-after.ensures c.rise.result c.rise.ensures.differs) in
     left_next_at p cells number c.without-open.result c.lasts.left c.lasts.words c.lasts.invariant.lefts (skip at) last
-    c.first_of-last.ensures.here c.first_of-last.ensures.lowest c.without-left.result c.without-left.type_inv
-    (λ x h. in_below c.without-open.result 32 x c.without-open.type_inv h) c.without-left.ensures.here c.without-left.ensures.others (omega arith)
+    c.first_of-last.ensures.here c.first_of-last.ensures.lowest c.but_first-left.result c.but_first-left.type_inv
+    (λ x h. in_below c.without-open.result 32 x c.without-open.type_inv h)
+    (c.but_first-left.ensures.here last c.first_of-last.ensures.here c.first_of-last.ensures.lowest)
+    (λ x few ne. c.but_first-left.ensures.others last c.first_of-last.ensures.here c.first_of-last.ensures.lowest x ne) (omega arith)
     c.in-Some.rises tells c.from-in-lasts.result c.noted.result c.from-in-lasts.ensures
     (subst (λ i. IsWith c.in-Some.rises number (slice_index c.lasts.words i) c.noted.result) (c.from.ensures ∙ sym c.from-in-lasts.ensures) c.noted.ensures)
     c.lasts.place c.lasts.invariant.passed

@@ -1,4 +1,4 @@
-use Rattle.std.proofs.Common.{◌≡◌, ◌+◌, ◌-◌, ◌*◌, ◌/◌, ◌%◌, ◌^◌, ◌<◌, ◌≤◌, ◌∷◌, suc, length, drop, sym, ◌∙◌, ap, subst, arith, length-drop, length-set}
+use Rattle.std.proofs.Common.{◌≡◌, ◌+◌, ◌-◌, ◌*◌, ◌/◌, ◌%◌, ◌^◌, ◌<◌, ◌≤◌, ◌∷◌, suc, length, drop, sym, ◌∙◌, ap, ap₂, subst, arith, length-drop, length-set}
 use Rattle.std.specs.Prelude.{slice_set}
 use Rattle.std.specs.List.{AllByRecursion}
 use Rattle.std.proofs.lemmas.List.{length-take-le}
@@ -20,6 +20,10 @@ loop-tile-preserved c =
     let square : 2 * 2 ≤ p.side * p.side = mul-le 2 2 p.side p.side low low in
     let base_is : base ≡ p.side * p.side = c.from-count.ensures ∙ c.cells.ensures.value ∙ ap (λ n. n * n) c.side.ensures.side in
     let some : 0 < base = omega arith in
+    let digit = c.last_digit.result in
+    let digit_is : digit ≡ c.loop-tile.rest % base = c.last_digit.ensures in
+    let more_rest = c.without_digit-rest.result in
+    let more_is : more_rest ≡ c.loop-tile.rest / base = c.without_digit-rest.ensures in
     let tile = c.loop-tile.tile in
     let rest = c.loop-tile.rest in
     let cells = c.loop-tile.cells in
@@ -32,31 +36,31 @@ loop-tile-preserved c =
     let all : length (but_last p cells) ≡ m = length-take-le m cells (omega arith) in
     let later = drop tile (but_last p cells) in
     let long : length later ≡ m - tile = (let d = length-drop tile (but_last p cells) in omega arith) in
-    let next : drop (tile - 1) (but_last p (slice_set cells (tile - 1) (rest % base))) ≡ rest % base ∷ later =
-    ap (drop (tile - 1)) (take-set-lt m cells (tile - 1) (rest % base) (omega arith)) ∙
-    drop_set (tile - 1) (but_last p cells) (rest % base) (omega arith) ∙
-    ap (λ k. rest % base ∷ drop k (but_last p cells)) here in
-    let digit : rest % base < base = mod_below rest base some in
+    let next : drop (tile - 1) (but_last p (slice_set cells (tile - 1) digit)) ≡ digit ∷ later =
+    ap (drop (tile - 1)) (take-set-lt m cells (tile - 1) digit (omega arith)) ∙
+    drop_set (tile - 1) (but_last p cells) digit (omega arith) ∙
+    ap (λ k. digit ∷ drop k (but_last p cells)) here in
+    let digit_low : digit < base = subst (λ d. d < base) (sym digit_is) (mod_below rest base some) in
     let before = c.loop-tile.invariant.digits in
     record {
-      room = length-set cells (tile - 1) (rest % base) ∙ room;
+      room = length-set cells (tile - 1) digit ∙ room;
       within = omega arith;
       digits =
-          (let grown : index_of base (drop (tile - 1) (but_last p (slice_set cells (tile - 1) (rest % base)))) ≡ rest % base * base ^ (m - tile)
-          + index_of base later = ap (index_of base) next ∙ ap (λ k. rest % base * base ^ k + index_of base later) long in
+          (let grown : index_of base (drop (tile - 1) (but_last p (slice_set cells (tile - 1) digit))) ≡ digit * base ^ (m - tile)
+          + index_of base later = ap (index_of base) next ∙ ap (λ k. digit * base ^ k + index_of base later) long in
           let power : base ^ (m - (tile - 1)) ≡ base ^ (m - tile) * base =
           ap (λ k. base ^ k) (let e : m - (tile - 1) ≡ suc (m - tile) = omega arith in e) ∙ pow-suc base (m - tile) in
-          let shifted : rest / base * base ^ (m - (tile - 1)) ≡ rest / base * (base ^ (m - tile) * base) = ap (λ k. rest / base * k) power in
-          let turned : rest / base * (base ^ (m - tile) * base) ≡ rest / base * base * base ^ (m - tile) = omega arith in
-          let split : (rest / base * base + rest % base) * base ^ (m - tile) ≡ rest * base ^ (m - tile) =
-          ap (λ k. k * base ^ (m - tile)) (div-add-mod' rest base) in
-          let spread : (rest / base * base + rest % base) * base ^ (m - tile) ≡ rest / base * base * base ^ (m - tile) + rest % base * base
+          let shifted : more_rest * base ^ (m - (tile - 1)) ≡ more_rest * (base ^ (m - tile) * base) = ap (λ k. more_rest * k) power in
+          let turned : more_rest * (base ^ (m - tile) * base) ≡ more_rest * base * base ^ (m - tile) = omega arith in
+          let split : (more_rest * base + digit) * base ^ (m - tile) ≡ rest * base ^ (m - tile) =
+          ap (λ k. k * base ^ (m - tile)) (ap₂ (λ k d. k * base + d) more_is digit_is ∙ div-add-mod' rest base) in
+          let spread : (more_rest * base + digit) * base ^ (m - tile) ≡ more_rest * base * base ^ (m - tile) + digit * base
           ^ (m - tile) = omega arith in
           omega arith);
-      inside = subst (AllByRecursion (λ x. x < base)) (sym next) (digit, c.loop-tile.invariant.inside);
+      inside = subst (AllByRecursion (λ x. x < base)) (sym next) (digit_low, c.loop-tile.invariant.inside);
       low =
           (let step : base ^ tile ≡ base ^ (tile - 1) * base = ap (λ k. base ^ k) (sym here) ∙ pow-suc base (tile - 1) in
-          div_below rest base (base ^ (tile - 1)) some (subst (λ k. rest < k) step c.loop-tile.invariant.low));
+          subst (λ k. k < base ^ (tile - 1)) (sym more_is) (div_below rest base (base ^ (tile - 1)) some (subst (λ k. rest < k) step c.loop-tile.invariant.low)));
     }
 
 -- the cells that were taken digit by digit have the index
