@@ -80,7 +80,7 @@ impl Change {
 }
 
 /// What a move of a tile does to the sums, where each is below a limit after it.
-#[inline]
+#[inline(always)]
 pub(crate) fn judge(
     bundle: &WordBundle<'_>,
     spot: &Spot,
@@ -150,7 +150,7 @@ fn with_if(mask: u32, number: u8, is_wanted: bool) -> u32
 }
 
 /// Moves the blank to a cell beside its own, and the tile there into its own.
-#[inline]
+#[inline(always)]
 pub(crate) fn move_blank(bundle: &WordBundle<'_>, spot: &mut Spot, to: u8, mv: Move, change: Change)
     requires { (b : List ℕ) × (next : List ℕ) × IsSlideTo bundle.now mv b next to
         × IsSpotOf bundle.now b spot.old × AreChanged bundle.now b next change }

@@ -91,7 +91,7 @@ impl<'a> Walk for WordWalk<'a> {
         Some(WordStep { from, mv, change })
     }
 
-    #[inline]
+    #[inline(always)]
     fn leave(&mut self, step: &WordStep) {
         let (back, change) = (step.mv.reverse(), step.change.back());
         move_blank(self.bundle, &mut self.spot, step.from, back, change);
