@@ -1,14 +1,15 @@
 //! What leads a search.
 
-ghost use Rattle.std.specs.Prelude.{◌≡◌, ◌≢◌, IfSome, MatchOption};
+ghost use Rattle.std.specs.Prelude.{◌≡◌, ◌≢◌, false, true, IfSome, MatchOption};
 ghost use Rattle.puz_board.specs.Boards.{side_of};
 ghost use Rattle.move_strings.specs.Automata.{IsState, left_out, next_at};
+ghost use Rattle.puz_walk.specs.Walks.{IsClosed, IsOpen};
 ghost use Rattle.puz_search.specs.Guides.{IsGuide, automaton_of};
 
-use crate::openness::{Openness, openness_of};
+use crate::openness::Openness;
 use move_strings::Automaton;
 use puz_board::{Board, Move, Side};
-use puz_walk::{SumWalk, WordBundle, WordWalk};
+use puz_walk::{WordBundle, is_closed};
 use set_sum::Bundle;
 use std::marker::Model;
 
@@ -115,9 +116,25 @@ impl<'a> Guide<'a> {
         ensures { IsOpennessOf
             (record { bundle = self.now.bundle; board = board.now; bound = bound }) result }
     {
+        if self.is_closed(board, bound) {
+            Openness::Closed
+        } else if board.is_goal() {
+            Openness::Goal
+        } else {
+            Openness::Open
+        }
+    }
+
+    /// Whether no solution of a board of fewer moves than a bound need be searched for.
+    fn is_closed(&self, board: &Board, bound: u8) -> bool
+        requires { side_of board.now ≡ self.now.bundle.side }
+        ensures closed { result ≡ true → IsClosed self.now.bundle board.now bound }
+        ensures is_open { result ≡ false
+            → IsOpen (record { bundle = self.now.bundle; board = board.now; bound = bound }) }
+    {
         match &self.sets {
-            Sets::Sums(bundle) => openness_of(SumWalk::new(bundle, board, bound)),
-            Sets::Words(words) => openness_of(WordWalk::new(words, board, bound)),
+            Sets::Sums(bundle) => is_closed(bundle, board, bound),
+            Sets::Words(words) => words.is_closed(board, bound),
         }
     }
 }

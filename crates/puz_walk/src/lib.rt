@@ -14,6 +14,7 @@ mod word_bundles;
 mod word_spots;
 mod word_walks;
 
+pub use cuts::is_closed;
 pub use sum_walks::{SumStep, SumWalk};
 pub use walks::Walk;
 pub use word_bundles::WordBundle;

@@ -1,21 +1,24 @@
 //! Bundles whose tables have edge words.
 
-ghost use Rattle.std.specs.Prelude.{◌≡◌, ◌≢◌, ◌*◌, ◌+◌, ◌<◌, ◌≤◌, ◌↔◌, ℕ, false, IfNone, IfSome, IsTrue, List, length};
+ghost use Rattle.std.specs.Prelude.{◌≡◌, ◌≢◌, ◌*◌, ◌+◌, ◌<◌, ◌≤◌, ◌↔◌, ℕ, false, true, IfNone, IfSome, IsTrue, List, length};
+ghost use Rattle.puz_board.specs.Boards.{side_of};
 ghost use Rattle.puz_board.specs.Cells.{step_of};
 ghost use Rattle.set_sum.specs.Bundles.{IsBundle};
 ghost use Rattle.set_sum.specs.Parts.{part_pattern, part_shown};
 ghost use Rattle.edge_words.specs.Words.{ShownWords};
 ghost use Rattle.puz_walk.specs.Seats.{IsSeatOf};
+ghost use Rattle.puz_walk.specs.Walks.{IsClosed, IsOpen};
 ghost use Rattle.puz_walk.specs.WordBundles.{HaveWords, most_worded};
 ghost use Rattle.puz_walk.specs.WordSpots.{AreKept, AreKeptOf, HasPlaces, IsShift};
 ghost use Rattle.edge_words.specs.Spots.{IsStepOf};
 
+use crate::cuts::is_closed;
 use crate::seats::{MOST_SEATS, Seat, all_seats, seat_place};
 use crate::ways::{Ways, all_ways, way_place};
 use crate::word_spots::{Kept, Spot};
 use edge_words::{Words, raises};
 use pat_place::Pattern;
-use puz_board::{Move, Side};
+use puz_board::{Board, Move, Side};
 use set_sum::{Bundle, Part};
 use std::marker::Model;
 
@@ -71,6 +74,16 @@ impl<'a> WordBundle<'a> {
         ensures bundle { IsBundle self.now }
     {
         self.bundle.side()
+    }
+
+    /// Whether no solution of a board of fewer moves than a bound need be searched for, as of the bundle.
+    pub fn is_closed(&self, board: &Board, bound: u8) -> bool
+        requires { side_of board.now ≡ self.now.side }
+        ensures closed { result ≡ true → IsClosed self.now board.now bound }
+        ensures is_open { result ≡ false
+            → IsOpen (record { bundle = self.now; board = board.now; bound = bound }) }
+    {
+        is_closed(self.bundle, board, bound)
     }
 
     /// How many sets there are.
