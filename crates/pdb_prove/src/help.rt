@@ -24,8 +24,11 @@ use work_run::{Gate, Workers};
 /// The most moves of the strings that a search for a hard claim leaves out.
 const LONGEST: u8 = 12;
 
+/// To make the words of a table takes about as long as to search over sums for one board for each so many of its placements.
+const PLACEMENTS_FOR_A_BOARD: u64 = 3;
+
 /// What leads the searches for hard claims over a bundle. An automaton of strings is made when the first of them wants it, and kept
-/// for the rest. Words are made once the hard claims have been searched for over sums for as many boards as the tables have
+/// for the rest. Words are made once the hard claims have been searched for over sums for a third as many boards as the tables have
 /// placements together. Where there is no memory for either, the searches go on without it.
 #[derive(Drop)]
 pub(crate) struct Help<'a> {
@@ -56,7 +59,7 @@ impl<'a> Help<'a> {
             reversals,
             is_made: false,
             strings: None,
-            before_words: wordable(bundle),
+            before_words: wordable(bundle).map(|count| count / PLACEMENTS_FOR_A_BOARD),
             words: None,
         }
     }
