@@ -15,11 +15,17 @@ import sys
 
 ROOT = pathlib.Path(__file__).resolve().parents[2]
 WITHOUT_EXAMPLE = {"pdb_cli", "word_laws", "claim_laws", "puz_walk"}
+SAMPLES = {"test_samples", "test_streams"}
 
 
 def bare(text):
     """The lines of a text without the spaces round them, with an end of line before and behind each."""
     return "\n" + "".join(line.strip() + "\n" for line in text.splitlines())
+
+
+def is_of_tests(crate):
+    """Whether a crate is one of tests, as all whose names begin with test_ but those of samples."""
+    return crate.startswith("test_") and crate not in SAMPLES
 
 
 def sentences():
@@ -35,7 +41,8 @@ def sentences():
 
 
 def main():
-    tests = [bare(file.read_text()) for file in sorted(ROOT.glob("crates/*_tests/src/*.rt"))]
+    files = sorted(ROOT.glob("crates/test_*/src/*.rt"))
+    tests = [bare(file.read_text()) for file in files if is_of_tests(file.parts[-3])]
     failures = passed = 0
     for page in sorted(ROOT.glob("crates/*/README.md")):
         crate = page.parent.name
@@ -43,7 +50,7 @@ def main():
         wrong = [it for it in examples if not any(bare(it) in test for test in tests)]
         if wrong:
             print(f"FAILED: no test has this example of {crate}:\n{wrong[0]}", end="")
-        elif not examples and not crate.endswith("_tests") and crate not in WITHOUT_EXAMPLE:
+        elif not examples and not is_of_tests(crate) and crate not in WITHOUT_EXAMPLE:
             wrong = [crate]
             print(f"FAILED: {crate} has no example")
         failures += bool(wrong)

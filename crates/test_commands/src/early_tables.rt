@@ -1,0 +1,77 @@
+//! The headers of tables, of which a line is told before the run begins.
+
+use crate::asked::{Named, bound, sentence, told_of};
+use std::test::Fail;
+use test_samples::files::{FOURTEEN_BLOCKS, TILE_3, TILE_24, TILES_12, with_byte, with_one_more};
+use test_samples::logs::LEAF;
+
+/// Files with which nothing is wrong.
+const FILES: [Named<'_>; 4] = [
+    ("board", b"3 2 1 0\n"),
+    ("sets", b"set 0 1\n"),
+    ("log", &LEAF),
+    ("t0", &TILES_12),
+];
+
+#[test]
+fn a_header_that_is_refused_is_told(rt: HostRuntime) -> Result<(), Fail> {
+    let asked = bound(rt.alloc(), &["t0", "t1"])?;
+    let cases: [(&[u8], &str); 10] = [
+        (&TILE_3, ""),
+        (&TILE_3[..19], "refused T1 of table 1"),
+        (&with_byte(&TILE_3, 4, 2), "refused T2 of table 1"),
+        (&with_byte(&TILE_3, 5, 6), "refused T3 of table 1"),
+        (&with_byte(&TILE_3, 7, 1), "refused T4 of table 1"),
+        (&with_byte(&TILE_3, 19, 9), "refused T5 of table 1"),
+        (&TILE_3[..27], "refused T6 of table 1"),
+        (&with_one_more(&TILES_12), "refused T6 of table 1"),
+        (&TILE_24, "refused S4 at table 1"),
+        (&with_byte(&TILE_3, 20, 7), ""),
+    ];
+    for (table, line) in cases {
+        let told = told_of(&rt, rt.alloc(), &asked, &[("t1", table)], &FILES)?;
+        assert_eq!(rt; told.as_str(), line);
+    }
+    Ok(())
+}
+
+#[test]
+fn a_large_table_is_seen_by_its_header_and_its_size(rt: HostRuntime) -> Result<(), Fail> {
+    let asked = bound(rt.alloc(), &["t0", "t1"])?;
+    let mut table = vec![in rt.alloc(); 0_u8; 13_460]?;
+    table.as_mut_slice()[..20].copy_from_slice(&FOURTEEN_BLOCKS);
+    let told = told_of(&rt, rt.alloc(), &asked, &[("t1", table.as_slice())], &FILES)?;
+    assert_eq!(rt; told.as_str(), "refused S4 at table 1");
+    table.truncate(13_459);
+    let told = told_of(&rt, rt.alloc(), &asked, &[("t1", table.as_slice())], &FILES)?;
+    assert_eq!(rt; told.as_str(), "refused T6 of table 1");
+    Ok(())
+}
+
+#[test]
+fn headers_come_before_set_texts(rt: HostRuntime) -> Result<(), Fail> {
+    let asked = bound(rt.alloc(), &["t0", "t1"])?;
+    let changed: [Named<'_>; 2] = [("sets", b"set"), ("t1", &TILE_3[..19])];
+    let told = told_of(&rt, rt.alloc(), &asked, &changed, &FILES)?;
+    assert_eq!(rt; told.as_str(), "refused T1 of table 1");
+    Ok(())
+}
+
+#[test]
+fn their_sentences_name_the_table(rt: HostRuntime) -> Result<(), Fail> {
+    let asked = bound(rt.alloc(), &["t0", "t1"])?;
+    let cases = [
+        (
+            "refused T6 of table 1",
+            "pdb_cli: this run can't end in a yes: t1: the file is shorter or longer than its header says",
+        ),
+        (
+            "refused S4 at table 1",
+            "pdb_cli: this run can't end in a yes: t1: table 1 is of another side than table 0",
+        ),
+    ];
+    for (line, wanted) in cases {
+        assert_eq!(rt; sentence(rt.alloc(), &asked, line)?.as_str(), wanted);
+    }
+    Ok(())
+}

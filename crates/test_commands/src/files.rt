@@ -1,0 +1,83 @@
+//! A shelf over a system that may say a wrong size of its file, and whose calls may fail.
+
+use crate::calls::were_calls;
+use byte_io::disk::DiskShelf;
+use byte_io::shelf::Shelf;
+use byte_io::streams::ReadFault;
+use std::alloc::{AllocError, Global};
+use std::test::Fail;
+use test_streams::{Call, SampleFiles};
+
+const NAME: &str = " its name";
+
+const TEXT: &[u8] = b"3 2 1 0 ; ULDRUL\n";
+
+/// The calls that read its seventeen bytes.
+const CALLS: &[Call] = &[
+    Call::Open,
+    Call::Look,
+    Call::Read,
+    Call::Read,
+    Call::Read,
+    Call::Read,
+    Call::Read,
+    Call::Read,
+];
+
+/// A system that has the text under the name.
+fn sample(alloc: Global) -> Result<SampleFiles, AllocError> {
+    SampleFiles::new(alloc, &[(NAME, TEXT)])
+}
+
+/// What a shelf over a system reads under the name, and whether it failed then.
+fn load(alloc: Global, files: &SampleFiles, limit: u64) -> (Result<Vec<u8>, ReadFault>, bool) {
+    let mut shelf = DiskShelf::new(files);
+    let read = shelf.load(alloc, NAME, limit);
+    (read, shelf.failed())
+}
+
+#[test]
+fn a_file_is_read_whole_whatever_size_is_said(rt: HostRuntime) -> Result<(), Fail> {
+    let alloc = rt.alloc();
+    for size in [0, 1, 16, 17, 18, 100] {
+        let files = sample(alloc)?;
+        files.say(size);
+        let (read, failed) = load(alloc, &files, 100);
+        assert!(rt; read?.as_slice() == TEXT && !failed);
+    }
+    Ok(())
+}
+
+#[test]
+fn a_file_is_read_whole_where_nothing_is_said(rt: HostRuntime) -> Result<(), Fail> {
+    let alloc = rt.alloc();
+    let files = sample(alloc)?;
+    files.fail(1, 2);
+    let (read, failed) = load(alloc, &files, 100);
+    assert!(rt; read?.as_slice() == TEXT && !failed);
+    assert!(rt; were_calls(&files, CALLS)?);
+    Ok(())
+}
+
+#[test]
+fn a_file_said_to_be_over_its_limit_is_not_read(rt: HostRuntime) -> Result<(), Fail> {
+    let alloc = rt.alloc();
+    let files = sample(alloc)?;
+    files.say(18);
+    let (read, failed) = load(alloc, &files, 17);
+    assert!(rt; matches!(read, Err(ReadFault::F2)) && !failed);
+    assert!(rt; were_calls(&files, &CALLS[..2])?);
+    Ok(())
+}
+
+#[test]
+fn a_read_that_fails_is_a_failure_of_the_shelf(rt: HostRuntime) -> Result<(), Fail> {
+    let alloc = rt.alloc();
+    for call in 2..CALLS.len() as u64 {
+        let files = sample(alloc)?;
+        files.fail(call, u64::MAX);
+        let (read, failed) = load(alloc, &files, 17);
+        assert!(rt; matches!(read, Err(ReadFault::F1)) && failed, "call {call}");
+    }
+    Ok(())
+}

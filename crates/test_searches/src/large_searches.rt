@@ -1,0 +1,69 @@
+//! Searches of more boards than one thread searches alone, of a board of side 3 with the table of a few tiles.
+
+use crate::guided::reversals;
+use crate::small_searches::{Told, bundle, searched};
+use puz_board::Board;
+use puz_search::{Answer, Guide, refute_by};
+use set_sum::Bundle;
+use std::process::Abort;
+use std::sync::Wait;
+use std::test::Fail;
+use std::thread::Threads;
+use test_samples::LeastCosts;
+use work_run::{OpenGate, Workers};
+
+/// One of the two boards of side 3 that are 31 moves from the goal board, the most (Reinefeld 1993).
+const NUMBERS: [u8; 9] = [8, 7, 6, 0, 4, 1, 2, 5, 3];
+
+/// So many moves have no solution, and take more boards than one thread searches alone.
+const BOUND: u8 = 21;
+
+/// Whether so many workers refute the bound within a budget of boards, and with how many.
+fn refuted<R: Threads + Wait + Sync + AllocGlobal + Abort>(
+    rt: &R,
+    bundle: &Bundle<'_>,
+    count: u8,
+    budget: u64,
+) -> Option<u64> {
+    let board = Board::from_cells(&NUMBERS).expect(rt, "a board");
+    if board.side() != bundle.side() {
+        panic!(rt; "of side 3");
+    }
+    let automaton = reversals(rt, board.side());
+    let guide = Guide::new(bundle, &automaton);
+    let workers = match count {
+        1..=64 => Workers::new(rt, rt.alloc(), count, &OpenGate),
+        _ => panic!(rt; "1 to 64 workers"),
+    };
+    let answer = match refute_by(&guide, &board, BOUND, budget, &workers) {
+        Ok(answer) => answer,
+        Err(_) => refute_by(&guide, &board, BOUND, budget, &workers).expect(rt, "memory"),
+    };
+    match answer {
+        Answer::Refuted(boards) => Some(boards),
+        Answer::Solved(_) => panic!(rt; "no solution has so few moves"),
+        Answer::Spent => None,
+    }
+}
+
+#[test]
+fn a_large_search_is_the_same_for_each_number_of_workers(rt: HostRuntime) -> Result<(), Fail> {
+    let file = LeastCosts::new(rt.alloc(), &[4])?.table(rt.alloc())?;
+    let bundle = bundle(&rt, &file);
+    let boards = refuted(&rt, &bundle, 1, 1 << 40).expect(&rt, "refuted");
+    assert!(rt; boards > 1 << 16, "{boards}");
+    assert_eq!(rt; refuted(&rt, &bundle, 64, boards), Some(boards));
+    assert_eq!(rt; refuted(&rt, &bundle, 7, boards.saturating_sub(1)), None);
+    Ok(())
+}
+
+#[test]
+fn a_solution_behind_the_frontier_is_found(rt: HostRuntime) -> Result<(), Fail> {
+    let file = LeastCosts::new(rt.alloc(), &[1, 2, 3, 4])?.table(rt.alloc())?;
+    let bundle = bundle(&rt, &file);
+    let Told::Solved(moves) = searched(&rt, &bundle, &NUMBERS, 32, 1 << 40) else {
+        panic!(rt; "solved");
+    };
+    assert_eq!(rt; moves, 31);
+    Ok(())
+}

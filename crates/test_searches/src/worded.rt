@@ -1,0 +1,218 @@
+//! Searches over edge words beside searches over sums.
+
+ghost use Rattle.std.specs.Prelude.{◌≡◌};
+
+use crate::bundles::bundle;
+use crate::finding::built;
+use crate::guided::{of_strings, reversals, scrambled};
+use crate::small_searches::{Told, tell, with_two_exchanged};
+use edge_words::Words;
+use move_strings::Automaton;
+use puz_board::Board;
+use puz_search::{Guide, refute, refute_by};
+use puz_walk::WordBundle;
+use set_sum::{Bundle, Part};
+use std::alloc::AllocError;
+use std::process::Abort;
+use std::sync::Wait;
+use std::test::Fail;
+use std::thread::Threads;
+use test_samples::LeastCosts;
+use test_samples::boards::RING;
+use test_samples::files::{TILE_1, TILE_3};
+use work_run::{OpenGate, Workers};
+
+/// More boards than any search here expands.
+const PLENTY: u64 = 1 << 30;
+
+/// Two boards of side 4 that are far from the goal board.
+const FAR: [[u8; 16]; 2] = [
+    [4, 14, 8, 11, 0, 9, 5, 7, 15, 1, 6, 12, 3, 10, 13, 2],
+    [15, 2, 12, 11, 14, 13, 9, 5, 1, 3, 8, 7, 0, 10, 6, 4],
+];
+
+/// The words of the tables of a bundle.
+fn words_of<R: Threads + Wait + Sync + AllocGlobal + Abort>(
+    rt: &R,
+    bundle: &Bundle<'_>,
+) -> Result<Vec<Words>, AllocError> {
+    let workers = Workers::new(rt, rt.alloc(), 2, &OpenGate);
+    let mut words = Vec::new(rt.alloc());
+    for table in 0..bundle.tables() {
+        if let Part::Full(table) = bundle.part(table) {
+            let found = Words::of(table, &workers)?;
+            words.push(found.expect(rt, "words"))?;
+        }
+    }
+    Ok(words)
+}
+
+/// What so many workers tell of a board, led by a guide.
+fn told_by<R: Threads + Wait + Sync + AllocGlobal + Abort>(
+    rt: &R,
+    guide: &Guide<'_>,
+    board: &Board,
+    bound: u8,
+    count: u8,
+) -> Result<Told, AllocError> {
+    if board.side() != guide.side() {
+        panic!(rt; "of the guide's side");
+    }
+    let workers = match count {
+        1..=64 => Workers::new(rt, rt.alloc(), count, &OpenGate),
+        _ => panic!(rt; "1 to 64 workers"),
+    };
+    let answer = refute_by(guide, board, bound, PLENTY, &workers)?;
+    Ok(tell(rt, board, answer))
+}
+
+/// What one thread tells of a board, led by a guide.
+fn told<R: Abort>(rt: &R, guide: &Guide<'_>, board: &Board, bound: u8, budget: u64) -> Told {
+    if board.side() != guide.side() {
+        panic!(rt; "of the guide's side");
+    }
+    tell(rt, board, refute(guide, board, bound, budget))
+}
+
+/// Asserts that searches over words tell of a board what searches over sums do, and expand as many boards: how many.
+fn compare<R: Threads + Wait + Sync + AllocGlobal + Abort>(
+    rt: &R,
+    sums: &Guide<'_>,
+    words: &Guide<'_>,
+    board: &Board,
+    bound: u8,
+) -> Result<u64, AllocError> {
+    let wanted = told(rt, sums, board, bound, PLENTY);
+    assert_eq!(rt; told(rt, words, board, bound, PLENTY), wanted);
+    for count in [1, 2, 7] {
+        assert_eq!(rt;
+            told_by(rt, words, board, bound, count)?,
+            wanted,
+            "{count} workers"
+        );
+    }
+    let Told::Refuted(boards) = wanted else {
+        return Ok(0);
+    };
+    assert_eq!(rt; told(rt, words, board, bound, boards), wanted);
+    if boards > 0 {
+        let short = boards.saturating_sub(1);
+        assert_eq!(rt; told(rt, words, board, bound, short), Told::Spent);
+    }
+    Ok(boards)
+}
+
+/// Compares the searches of all boards below all bounds: how many boards they expand.
+fn compare_all<R: Threads + Wait + Sync + AllocGlobal + Abort>(
+    rt: &R,
+    sums: &Guide<'_>,
+    words: &Guide<'_>,
+    boards: &[Board],
+    bounds: &[u8],
+) -> Result<u64, AllocError> {
+    let mut expanded: u64 = 0;
+    for board in boards {
+        for bound in bounds {
+            expanded = expanded.saturating_add(compare(rt, sums, words, board, *bound)?);
+        }
+    }
+    Ok(expanded)
+}
+
+/// Compares the searches of all boards below all bounds, led by an automaton.
+fn compare_by<R: Threads + Wait + Sync + AllocGlobal + Abort>(
+    rt: &R,
+    tables: (&Bundle<'_>, &[Words]),
+    automaton: &Automaton,
+    boards: &[Board],
+    bounds: &[u8],
+) -> Result<u64, AllocError> {
+    let (bundle, words) = tables;
+    let words = WordBundle::of(bundle, words).expect(rt, "words of each table");
+    if automaton.side() != bundle.side() {
+        panic!(rt; "of the bundle's side");
+    }
+    let sums = Guide::new(bundle, automaton);
+    let words = Guide::over_words(&words, automaton);
+    compare_all(rt, &sums, &words, boards, bounds)
+}
+
+/// Compares the searches over a bundle of table files and a set text, led by the automaton of reversals, and by a longer one:
+/// how many boards each expands.
+fn expanded<R: Threads + Wait + Sync + AllocGlobal + Abort>(
+    rt: &R,
+    files: &[&[u8]],
+    sets: &[u8],
+    boards: &[Board],
+    bounds: &[u8],
+) -> Result<[u64; 2], AllocError> {
+    let bundle = bundle(rt, files, sets);
+    let words = words_of(rt, &bundle)?;
+    let tables = (&bundle, words.as_slice());
+    let short = compare_by(rt, tables, &reversals(rt, bundle.side()), boards, bounds)?;
+    let long = compare_by(rt, tables, &of_strings(rt, bundle.side())?, boards, bounds)?;
+    Ok([short, long])
+}
+
+#[test]
+fn all_boards_of_side_2_are_searched_alike(rt: HostRuntime) -> Result<(), Fail> {
+    let mut boards = Vec::new(rt.alloc());
+    for numbers in &RING {
+        boards.push(Board::from_cells(numbers).expect(&rt, "a board"))?;
+        let odd = with_two_exchanged(&rt, numbers);
+        boards.push(Board::from_cells(&odd).expect(&rt, "a board"))?;
+    }
+    let files: [&[u8]; 2] = [&TILE_1, &TILE_3];
+    let sets: [&[u8]; 3] = [b"set 0 1\n", b"set 0 0t 1\n", b"set 1\nset 0t 1t\n"];
+    for text in sets {
+        let [short, long] = expanded(&rt, &files, text, &boards, &[0, 1, 2, 3, 4, 5, 6, 7, 8])?;
+        assert!(rt; long > 0 && short >= long, "{short} {long}");
+    }
+    Ok(())
+}
+
+#[test]
+fn boards_of_side_3_are_searched_alike(rt: HostRuntime) -> Result<(), Fail> {
+    let low = LeastCosts::new(rt.alloc(), &[1, 2, 3, 4])?.table(rt.alloc())?;
+    let high = LeastCosts::new(rt.alloc(), &[5, 6, 7, 8])?.table(rt.alloc())?;
+    let mut board = Board::from_cells(&[0, 1, 2, 3, 4, 5, 6, 7, 8]).expect(&rt, "a board");
+    let mut boards = Vec::new(rt.alloc());
+    let mut state: u32 = 7;
+    for _ in 0..150 {
+        board = scrambled(&board, &mut state);
+        boards.push(board)?;
+    }
+    let sets: [&[u8]; 2] = [b"set 0 1\nset 0t 1t\n", b"set 0\nset 1\nset 0t\n"];
+    for text in sets {
+        let [short, long] = expanded(&rt, &[&low, &high], text, &boards, &[17, 21])?;
+        assert!(rt; long > 100 && short > long, "{short} {long}");
+    }
+    Ok(())
+}
+
+/// The table of a mask of tiles of side 4.
+fn table_of<R: Threads + Sync + AllocGlobal + Abort>(rt: &R, mask: u32) -> Vec<u8> {
+    built(rt, 4, mask).expect(rt, "a table")
+}
+
+#[test]
+fn boards_of_side_4_are_searched_alike(rt: HostRuntime) -> Result<(), Fail> {
+    // Tiles 1, 4 and 5, tiles 2, 3 and 6, and tiles 8, 9 and 12.
+    let tables = [0x0032, 0x004c, 0x1300].map(|mask| table_of(&rt, mask));
+    let files: [&[u8]; 3] = [&tables[0], &tables[1], &tables[2]];
+    // A search in another language, over dictionaries of least costs, expands so many boards.
+    let wanted = [(40, 303_125), (40, 71_005)];
+    for (numbers, (bound, boards)) in FAR.iter().zip(wanted) {
+        let board = Board::from_cells(numbers).expect(&rt, "a board");
+        let [short, long] = expanded(
+            &rt,
+            &files,
+            b"set 0 1 2\nset 0t 1t 2t\n",
+            &[board],
+            &[bound],
+        )?;
+        assert_eq!(rt; short, boards);
+        assert!(rt; long > 0 && long < short, "{long}");
+    }
+    Ok(())
+}

@@ -1,0 +1,335 @@
+//! Checks by several workers, and gates that show them side by side.
+
+ghost use Rattle.std.specs.Prelude.{◌≡◌, ℕ, ◌+◌, ◌*◌, ◌<◌, ◌≤◌, ◌^◌};
+
+use book_live::Book;
+use std::alloc::{AllocError, Global};
+use std::sync::atomic::{AtomicU64, Ordering};
+use std::test::Fail;
+use test_samples::{HoldingGate, Log};
+use work_run::{Gate, Job, OpenGate, run_jobs, work};
+
+/// Jobs of so many places each, of which two are bad. The two may be one.
+#[derive(Drop)]
+struct Spoilt {
+    jobs: u64,
+    width: u64,
+    least: u64,
+    other: u64,
+    ghost few: { jobs ≤ 2 ^ 32 },
+    ghost small: { width * jobs ≤ 2 ^ 32 },
+    ghost rises: { (job : ℕ) → width * job ≤ width * (job + 1) },
+    ghost fits: { (job : ℕ) → job ≤ jobs → width * job ≤ 2 ^ 32 },
+    ghost in_order: { least ≤ other },
+}
+
+impl Job for Spoilt {
+    ghost use Rattle.std.specs.Prelude.{◌≡◌, ◌*◌, ◌⊎◌};
+    ghost use Rattle.std.proofs.Math.Nat.{mul-zero};
+
+    ghost jobs = { λ spoilt. spoilt.jobs };
+
+    ghost begins = { λ spoilt job. spoilt.width * job };
+
+    ghost bad = { λ spoilt place. (place ≡ spoilt.least) ⊎ (place ≡ spoilt.other) };
+
+    ghost few = { λ spoilt. spoilt.few };
+
+    ghost from_zero = { λ spoilt. mul-zero spoilt.width };
+
+    ghost rises = { λ spoilt job _. spoilt.rises job };
+
+    ghost small = { λ spoilt. spoilt.small };
+
+    fn count(&self) -> u64 {
+        self.jobs
+    }
+
+    fn first(&self, job: u64) -> u64 {
+        self.width * job
+    }
+
+    fn run(&self, job: u64) -> Option<u64> {
+        let from = self.first(job);
+        let end = self.first(job + 1);
+        if from <= self.least && self.least < end {
+            Some(self.least)
+        } else if from <= self.other && self.other < end {
+            Some(self.other)
+        } else {
+            None
+        }
+    }
+}
+
+/// Jobs of one place each, all good.
+#[derive(Drop)]
+pub(crate) struct Good {
+    pub(crate) count: u64,
+    ghost few: { count ≤ 2 ^ 32 },
+    ghost rises: { (job : ℕ) → job ≤ job + 1 },
+}
+
+impl Job for Good {
+    ghost use Rattle.std.specs.Prelude.{refl};
+
+    ghost jobs = { λ good. good.count };
+
+    ghost begins = { λ _ job. job };
+
+    ghost bad = { λ _ _. ⊥ };
+
+    ghost few = { λ good. good.few };
+
+    ghost from_zero = { λ _. refl };
+
+    ghost rises = { λ good job _. good.rises job };
+
+    ghost small = { λ good. good.few };
+
+    fn count(&self) -> u64 {
+        self.count
+    }
+
+    fn first(&self, job: u64) -> u64 {
+        job
+    }
+
+    fn run(&self, _job: u64) -> Option<u64> {
+        None
+    }
+}
+
+const NOTED_JOBS: u64 = 101;
+
+/// Jobs and a gate in one: it numbers the calls of both, from 1, and notes for each job those that were for it.
+#[derive(Drop)]
+struct Diary {
+    calls: AtomicU64,
+    entered: Vec<AtomicU64>,
+    run: Vec<AtomicU64>,
+    ghost few: { 101 ≤ 2 ^ 32 },
+    ghost rises: { (job : ℕ) → job ≤ job + 1 },
+}
+
+impl Diary {
+    fn new(alloc: Global) -> Result<Diary, AllocError> {
+        let mut entered = Vec::new(alloc);
+        let mut run = Vec::new(alloc);
+        for _ in 0..NOTED_JOBS {
+            entered.push(AtomicU64::new(0))?;
+            run.push(AtomicU64::new(0))?;
+        }
+        Ok(Diary {
+            calls: AtomicU64::new(1),
+            entered,
+            run,
+        })
+    }
+
+    fn note(&self, notes: &[AtomicU64], job: u64) {
+        let call = self.calls.fetch_add(1, Ordering::SeqCst);
+        if let Some(note) = notes.get(job as usize) {
+            note.store(call, Ordering::SeqCst);
+        }
+    }
+}
+
+impl Gate for Diary {
+    fn before(&self, job: u64) {
+        self.note(&self.entered, job);
+    }
+}
+
+impl Job for Diary {
+    ghost use Rattle.std.specs.Prelude.{refl};
+
+    ghost jobs = { λ _. 101 };
+
+    ghost begins = { λ _ job. job };
+
+    ghost bad = { λ _ _. ⊥ };
+
+    ghost few = { λ diary. diary.few };
+
+    ghost from_zero = { λ _. refl };
+
+    ghost rises = { λ diary job _. diary.rises job };
+
+    ghost small = { λ diary. diary.few };
+
+    fn count(&self) -> u64 {
+        NOTED_JOBS
+    }
+
+    fn first(&self, job: u64) -> u64 {
+        job
+    }
+
+    fn run(&self, job: u64) -> Option<u64> {
+        self.note(&self.run, job);
+        None
+    }
+}
+
+/// The numbers below this one.
+fn numbers_below(alloc: Global, end: u64) -> Result<Vec<u64>, AllocError> {
+    let mut numbers = Vec::new(alloc);
+    for number in 0..end {
+        numbers.push(number)?;
+    }
+    Ok(numbers)
+}
+
+/// Five jobs of ten places each, of which 12 and 43 are bad.
+fn five_tens() -> Spoilt
+    ensures { result.jobs ≡ 5 }
+{
+    Spoilt {
+        jobs: 5,
+        width: 10,
+        least: 12,
+        other: 43,
+    }
+}
+
+#[test]
+fn the_least_of_two_bad_places_is_found_by_any_number_of_workers(
+    rt: HostRuntime,
+) -> Result<(), Fail> {
+    let jobs = five_tens();
+    for workers in [1, 2, 7, 64] {
+        assert_eq!(rt;
+            run_jobs(&rt, rt.alloc(), &jobs, workers, &OpenGate)?,
+            Some(12)
+        );
+    }
+    Ok(())
+}
+
+// Run with each allocation refused in turn.
+#[test]
+fn want_of_memory_is_answered_and_a_second_run_finds_the_fault(
+    rt: HostRuntime,
+) -> Result<(), Fail> {
+    let jobs = five_tens();
+    let fault = match run_jobs(&rt, rt.alloc(), &jobs, 7, &OpenGate) {
+        Ok(fault) => fault,
+        Err(_) => run_jobs(&rt, rt.alloc(), &jobs, 7, &OpenGate)?,
+    };
+    assert_eq!(rt; fault, Some(12));
+    Ok(())
+}
+
+#[test]
+fn no_jobs_have_no_fault(rt: HostRuntime) -> Result<(), Fail> {
+    let none = Good { count: 0 };
+    assert_eq!(rt; run_jobs(&rt, rt.alloc(), &none, 3, &OpenGate)?, None);
+    Ok(())
+}
+
+#[test]
+fn two_workers_run_two_jobs_side_by_side(rt: HostRuntime) -> Result<(), Fail> {
+    let gate = HoldingGate::new(&[0], &[1]);
+    let jobs = Good { count: 2 };
+    assert_eq!(rt; run_jobs(&rt, rt.alloc(), &jobs, 2, &gate)?, None);
+    assert!(rt; gate.saw_all());
+    Ok(())
+}
+
+#[test]
+fn a_worker_that_is_held_leaves_all_other_jobs_to_the_other(rt: HostRuntime) -> Result<(), Fail> {
+    let cases: [(u64, [u64; 3]); 4] = [
+        (0, [1, 2, 3]),
+        (1, [0, 2, 3]),
+        (2, [0, 1, 3]),
+        (3, [0, 1, 2]),
+    ];
+    for (held, others) in cases {
+        let held = [held];
+        let gate = HoldingGate::new(&held, &others);
+        let jobs = Good { count: 4 };
+        assert_eq!(rt; run_jobs(&rt, rt.alloc(), &jobs, 2, &gate)?, None);
+        assert!(rt; gate.saw_all(), "holding job {}", held[0]);
+    }
+    Ok(())
+}
+
+#[test]
+fn a_job_that_is_held_may_have_the_least_bad_place(rt: HostRuntime) -> Result<(), Fail> {
+    let gate = HoldingGate::new(&[0], &[1]);
+    let jobs = Spoilt {
+        jobs: 2,
+        width: 10,
+        least: 3,
+        other: 10,
+    };
+    assert_eq!(rt; run_jobs(&rt, rt.alloc(), &jobs, 2, &gate)?, Some(3));
+    assert!(rt; gate.saw_all());
+    Ok(())
+}
+
+#[test]
+fn jobs_above_the_seen_place_are_not_entered(rt: HostRuntime) -> Result<(), Fail> {
+    let gate = Log::new(rt.alloc(), 8)?;
+    let jobs = Spoilt {
+        jobs: 1000,
+        width: 1,
+        least: 0,
+        other: 0,
+    };
+    assert_eq!(rt; run_jobs(&rt, rt.alloc(), &jobs, 1, &gate)?, Some(0));
+    assert_eq!(rt; gate.notes(rt.alloc())?.as_slice(), [0].as_slice());
+    let gate = Log::new(rt.alloc(), 8)?;
+    let jobs = Spoilt {
+        jobs: 6,
+        width: 10,
+        least: 30,
+        other: 50,
+    };
+    assert_eq!(rt; run_jobs(&rt, rt.alloc(), &jobs, 1, &gate)?, Some(30));
+    assert_eq!(rt; gate.notes(rt.alloc())?.as_slice(), [0, 1, 2, 3].as_slice());
+    Ok(())
+}
+
+#[test]
+fn as_many_workers_as_asked_for_run_side_by_side(rt: HostRuntime) -> Result<(), Fail> {
+    for workers in [4, 64] {
+        let all = numbers_below(rt.alloc(), u64::from(workers))?;
+        let gate = HoldingGate::new(all.as_slice(), all.as_slice());
+        let jobs = Good {
+            count: u64::from(workers),
+        };
+        assert_eq!(rt; run_jobs(&rt, rt.alloc(), &jobs, workers, &gate)?, None);
+        assert!(rt; gate.saw_all(), "{workers} workers");
+    }
+    Ok(())
+}
+
+#[test]
+fn each_job_is_entered_once_and_then_run_once(rt: HostRuntime) -> Result<(), Fail> {
+    for workers in [1, 7] {
+        let diary = Diary::new(rt.alloc())?;
+        assert_eq!(rt; run_jobs(&rt, rt.alloc(), &diary, workers, &diary)?, None);
+        assert_eq!(rt; diary.calls.load(Ordering::SeqCst), 1 + 2 * NOTED_JOBS);
+        for (entered, run) in diary.entered.iter().zip(&diary.run) {
+            let entered = entered.load(Ordering::SeqCst);
+            let run = run.load(Ordering::SeqCst);
+            assert!(rt;
+                0 < entered && entered < run,
+                "entered {entered}, run {run}"
+            );
+        }
+    }
+    Ok(())
+}
+
+#[test]
+fn one_worker_works_through_its_pass(rt: HostRuntime) -> Result<(), Fail> {
+    let (book, mut passes) = Book::new(rt.alloc(), 5, 1)?;
+    let pass = work(&five_tens(), &book, passes.remove(0), &OpenGate);
+    assert!(rt; pass.ended());
+    let passes = vec![in rt.alloc(); pass]?;
+    assert_eq!(rt; book.close(passes), Some(12));
+    Ok(())
+}
