@@ -271,7 +271,7 @@ fn searches_of<H: Threads + Wait + Sync>(
 }
 
 #[test]
-fn a_claim_is_searched_for_anew_over_words_where_it_takes_more_boards_than_there_are_placements(
+fn a_claim_is_searched_for_anew_over_words_where_it_takes_many_boards(
     rt: HostRuntime,
 ) -> Result<(), Fail> {
     let alloc = rt.alloc();
@@ -284,13 +284,14 @@ fn a_claim_is_searched_for_anew_over_words_where_it_takes_more_boards_than_there
         ("great", &great),
     ];
     let mut shelf = MemShelf::of(alloc, &files)?;
-    // The first claim takes more than 9 boards, and is searched for a second time, and the second claim over words alone.
+    // Words are made after a third as many boards as there are placements, 3 here: the first claim takes more, and is searched for a
+    // second time, and the second claim over words alone.
     assert_eq!(rt; searches_of(&rt, alloc, "twice sets small", &mut shelf)?, 3);
     // Folded tables have no words.
     let folded = "twice sets small --fold --workers 2";
     assert_eq!(rt; searches_of(&rt, alloc, folded, &mut shelf)?, 2);
-    // There are 181,449 placements: the first claim takes fewer boards, but both take more together.
-    let both = "twice sets small great --workers 2";
+    // A third of the 362,889 placements are 120,963: the first claim takes fewer boards, but both take more together.
+    let both = "twice sets small great great --workers 2";
     assert_eq!(rt; searches_of(&rt, alloc, both, &mut shelf)?, 3);
     Ok(())
 }
