@@ -56,7 +56,7 @@ printf 'set 0 1 2 3\\nset 0t 1t 2t 3t\\n' >sets
     diff - docs/results/korf_felner_2002.answers
 ```
 
-The last searches expand {boards} boards in all. Four idle processors expand 42 to 50 million a second ([SPEED](SPEED.md)).
+The last searches expand {boards} boards in all. Four idle processors expand 47 to 53 million a second ([SPEED](SPEED.md)).
 """
 # A search of fewer boards tells nothing while it runs.
 FEW = 65_536
