@@ -60,7 +60,8 @@ loop-tile-preserved c =
       inside = subst (AllByRecursion (λ x. x < base)) (sym next) (digit_low, c.loop-tile.invariant.inside);
       low =
           (let step : base ^ tile ≡ base ^ (tile - 1) * base = ap (λ k. base ^ k) (sym here) ∙ pow-suc base (tile - 1) in
-          subst (λ k. k < base ^ (tile - 1)) (sym more_is) (div_below rest base (base ^ (tile - 1)) some (subst (λ k. rest < k) step c.loop-tile.invariant.low)));
+          subst (λ k. k < base ^ (tile - 1)) (sym more_is)
+          (div_below rest base (base ^ (tile - 1)) some (subst (λ k. rest < k) step c.loop-tile.invariant.low)));
     }
 
 -- the cells that were taken digit by digit have the index
