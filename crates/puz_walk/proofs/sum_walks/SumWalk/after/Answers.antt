@@ -1,4 +1,4 @@
-use Rattle.std.proofs.Common.{◌≡◌, ◌+◌, ◌*◌, ◌<◌, slice_index_or, None, sym, ◌∙◌, ap, subst, arith}
+use Rattle.std.proofs.Common.{◌+◌, ◌*◌, ◌<◌, slice_index_or, None, ◌∙◌, ap, arith}
 use Rattle.puz_board.specs.Boards.{blank}
 use Rattle.puz_board.specs.Cells.{step_of}
 use Rattle.puz_board.specs.declared.moves.Move.{Move}
