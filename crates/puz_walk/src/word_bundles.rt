@@ -76,7 +76,7 @@ impl<'a> WordBundle<'a> {
         self.bundle.side()
     }
 
-    /// Whether no solution of a board of fewer moves than a bound need be searched for, as of the bundle.
+    /// Whether no solution of a board of fewer moves than a bound need be searched for, by the sums of the sets.
     pub fn is_closed(&self, board: &Board, bound: u8) -> bool
         requires { side_of board.now ≡ self.now.side }
         ensures closed { result ≡ true → IsClosed self.now board.now bound }
