@@ -1,10 +1,11 @@
 //! Sentences that say why a run ended without a yes, and the output that keeps its last line.
 
-use crate::asked::bound;
 use byte_io::memory::MemShelf;
 use byte_io::streams::put_bytes;
 use pdb_reason::{Beginning, Heard, Reason};
-use pdb_request::{JoinParts, MakeTable, Prove, Replay, Request, Solve, TableCheck};
+use pdb_request::{
+    JoinParts, LogCheck, LogClaim, MakeTable, Prove, Replay, Request, Solve, TableCheck,
+};
 use std::alloc::{AllocError, Global};
 use std::process::Abort;
 use std::test::Fail;
@@ -19,7 +20,15 @@ fn tables<'a>(alloc: Global) -> Result<Vec<&'a str>, AllocError> {
 }
 
 fn log_check<'a>(alloc: Global) -> Result<Request<'a>, AllocError> {
-    bound(alloc, &["t0", "t1", "t2"])
+    Ok(Request::LogCheck(LogCheck {
+        claim: LogClaim::Bound,
+        text: "board",
+        sets: "sets",
+        log: "log",
+        tables: tables(alloc)?,
+        workers: 1,
+        fold: false,
+    }))
 }
 
 fn search<'a>(alloc: Global) -> Result<Request<'a>, AllocError> {
