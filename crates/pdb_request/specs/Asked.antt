@@ -1,7 +1,6 @@
 -- What words ask for, as bytes and numbers.
 use Rattle.std.specs.Borrow.{Bor}
 use Rattle.std.specs.Prelude.{◌≡◌, ⊤, ℕ, ◌%◌, ◌≤◌, Bool, IfSome, List, Option, map, option_map}
-use Rattle.book_core.specs.Books.{AreWorkers}
 use Rattle.pdb_request.specs.declared.requests.LogClaim.{LogClaim}
 use Rattle.pdb_request.specs.declared.requests.LogClaim.TheVariants as claim
 use Rattle.pdb_request.specs.declared.requests.LogCheck.{LogCheck}
@@ -189,16 +188,6 @@ request_shown (request.Prove command) = prove (prove_shown command)
 request_shown (request.JoinParts command) = parts (parts_shown command)
 
 -- ---- which numbers a request can have
-
--- there are as many workers as may share a check, where any are asked for
-abbrev pub HasWorkers : Request → Type 0
-HasWorkers (request.Replay command) = ⊤
-HasWorkers (request.TableCheck check) = AreWorkers check.workers
-HasWorkers (request.LogCheck check) = AreWorkers check.workers
-HasWorkers (request.MakeTable command) = AreWorkers command.workers
-HasWorkers (request.Solve search) = AreWorkers search.workers
-HasWorkers (request.Prove command) = AreWorkers command.workers
-HasWorkers (request.JoinParts command) = ⊤
 
 -- a search may be let expand so many boards at most
 abbrev pub most_budget : ℕ

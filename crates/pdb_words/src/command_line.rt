@@ -4,10 +4,11 @@ ghost use Rattle.std.specs.Prelude.{◌≡◌, ◌∷◌, [], IfErr, IfOk, IfSom
 ghost use Rattle.std.specs.Option.{MatchOption};
 ghost use Rattle.clap.specs.Words.{App, FailsBy, app_of, subcommand_of, subcommand_rows_of, with_subcommand};
 ghost use Rattle.clap.specs.declared.error.kind.ErrorKind.TheVariants.{ValueValidation};
-ghost use Rattle.pdb_request.specs.Asked.{HasBudget, HasOddCount, HasWorkers, request_shown};
+ghost use Rattle.pdb_request.specs.Asked.{HasBudget, HasOddCount, request_shown};
 ghost use Rattle.pdb_words.specs.CommandLine.{Parses, asked_in, asked_of, checks, command_line, parse_faults, program, value_faults_in};
 ghost use Rattle.pdb_words.specs.Commands.{IsCommand};
 ghost use Rattle.pdb_words.specs.Faults.{IsCauseOfWordFault, IsMistakeOrMemory, IsPlainlySaid};
+ghost use Rattle.pdb_words.specs.Workers.{HasWorkers};
 
 use crate::commands::with_statuses;
 use crate::faults::{WordFault, count_fault, fault_by, mask_fault};

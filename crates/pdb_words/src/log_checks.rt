@@ -2,10 +2,11 @@
 
 ghost use Rattle.std.specs.Prelude.{◌≡◌, IfOk, codes};
 ghost use Rattle.clap.specs.Words.{app_of, with_rule};
-ghost use Rattle.pdb_request.specs.Asked.{HasBudget, HasWorkers, request_shown};
+ghost use Rattle.pdb_request.specs.Asked.{HasBudget, request_shown};
 ghost use Rattle.pdb_words.specs.Arguments.{rows_found};
 ghost use Rattle.pdb_words.specs.Files.{needed_file, with_log};
 ghost use Rattle.pdb_words.specs.LogChecks.{check_command, check_in, text_id};
+ghost use Rattle.pdb_words.specs.Workers.{HasWorkers};
 
 use crate::commands::{new_command, with_statuses};
 use crate::files::{file_in, tables_in, with_file, with_log};

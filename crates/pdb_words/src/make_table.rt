@@ -4,9 +4,10 @@ ghost use Rattle.std.specs.Prelude.{◌≡◌, ◌∷◌, [], IfOk};
 ghost use Rattle.std.specs.Option.{MatchOption};
 ghost use Rattle.clap.specs.Words.{app_of, rule_of, with_rule};
 ghost use Rattle.clap.specs.declared.error.kind.ErrorKind.TheVariants.{ValueValidation};
-ghost use Rattle.pdb_request.specs.Asked.{HasBudget, HasWorkers, request_shown};
+ghost use Rattle.pdb_request.specs.Asked.{HasBudget, request_shown};
 ghost use Rattle.pdb_words.specs.Arguments.{rows_found};
 ghost use Rattle.pdb_words.specs.MakeTable.{make_table_command, make_table_in, mask_faults, mask_in, mask_number_in, needed_mask, needed_side, side_number_in};
+ghost use Rattle.pdb_words.specs.Workers.{HasWorkers};
 
 use crate::commands::{new_command, with_argument, with_statuses};
 use crate::files::{file_in, with_file};

@@ -2,10 +2,11 @@
 
 ghost use Rattle.std.specs.Prelude.{◌≡◌, ◌↔◌, [], IfOk, IsTrue};
 ghost use Rattle.clap.specs.Words.{app_of, rule_of, with_rule};
-ghost use Rattle.pdb_request.specs.Asked.{HasBudget, HasOddCount, HasWorkers, file_names, request_shown};
+ghost use Rattle.pdb_request.specs.Asked.{HasBudget, HasOddCount, file_names, request_shown};
 ghost use Rattle.pdb_words.specs.Arguments.{rows_found};
 ghost use Rattle.pdb_words.specs.Files.{needed_file};
 ghost use Rattle.pdb_words.specs.Parts.{answers_in, bound_in, count_faults, count_in, needed_answers, needed_bound, needed_count, parts_command, parts_in};
+ghost use Rattle.pdb_words.specs.Workers.{HasWorkers};
 
 use crate::commands::{new_command, with_argument, with_statuses};
 use crate::files::{file_in, with_file};

@@ -2,9 +2,10 @@
 
 ghost use Rattle.std.specs.Prelude.{◌≡◌, IfOk, option_map};
 ghost use Rattle.clap.specs.Words.{app_of};
-ghost use Rattle.pdb_request.specs.Asked.{HasBudget, HasWorkers, request_shown};
+ghost use Rattle.pdb_request.specs.Asked.{HasBudget, request_shown};
 ghost use Rattle.pdb_words.specs.Arguments.{rows_found};
 ghost use Rattle.pdb_words.specs.Prove.{file_or_input, prove_command, prove_in};
+ghost use Rattle.pdb_words.specs.Workers.{HasWorkers};
 
 use crate::budget::{optional_budget_flag, optional_budget_in};
 use crate::commands::{new_command, with_argument, with_statuses};

@@ -2,9 +2,10 @@
 
 ghost use Rattle.std.specs.Prelude.{◌≡◌, IfOk};
 ghost use Rattle.clap.specs.Words.{app_of};
-ghost use Rattle.pdb_request.specs.Asked.{HasBudget, HasWorkers, request_shown};
+ghost use Rattle.pdb_request.specs.Asked.{HasBudget, request_shown};
 ghost use Rattle.pdb_words.specs.Arguments.{rows_found};
 ghost use Rattle.pdb_words.specs.Table.{table_command, table_in};
+ghost use Rattle.pdb_words.specs.Workers.{HasWorkers};
 
 use crate::commands::{new_command, with_statuses};
 use crate::files::{file_in, with_file};

@@ -60,14 +60,16 @@ impl Job for TableBlocks<'_> {
     }
 }
 
-/// The number of a block's least entry that breaks the local rule: by runs where rows are kept, and else by columns.
+/// The number of a block's least entry that breaks the local rule: by runs where their rows are kept, and else by columns.
 fn bad_entry_in(table: &TableView<'_>, rows: &Option<RowTable>, block: u64) -> Option<u64>
     requires block { block < block_count table.now.pattern }
     requires rows { IfSome rows.now (λ kept. kept ≡ rows_for table.now.pattern) }
     ensures { MatchOption result (BlockKeepsRule table.now block) (IsLeastBadIn table.now block) }
 {
-    match rows {
-        Some(rows) => check_runs(table, rows, block),
-        None => check_block(table, block),
+    if let Some(rows) = rows {
+        if let Ok(found) = check_runs(table, rows, block) {
+            return found;
+        }
     }
+    check_block(table, block)
 }

@@ -5,7 +5,8 @@ use Rattle.std.proofs.lemmas.Bool.{cases_lt}
 use Rattle.std.proofs.lemmas.List.{get_or-drop, get_or-take, length-take-le}
 use Rattle.pat_place.specs.Patterns.{ShownPattern}
 use Rattle.tab_file.specs.Tables.{Table, slot_count}
-use Rattle.tab_lanes.specs.LocalRule.{AllPlacesKeepRule, IsFirstBreach, KeepsRuleAt, KeepsRuleOfKind}
+use Rattle.tab_file.specs.EntryRules.{KeepsRuleOfKind}
+use Rattle.tab_lanes.specs.LocalRule.{AllPlacesKeepRule, IsFirstBreach, KeepsRuleAt}
 use Rattle.tab_rule.specs.Blocks.{BlockKeepsRule, IsInBlock, IsLeastBadIn}
 use Rattle.tab_rule.specs.Entries.{IsEntryNumber}
 use Rattle.tab_rule.specs.Limits.{IsPast, KeepsRuleUpTo, Ruled}

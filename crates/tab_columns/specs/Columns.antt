@@ -6,7 +6,7 @@ use Rattle.puz_board.specs.Paths.{Reaches}
 use Rattle.pat_place.specs.Patterns.{ShownPattern}
 use Rattle.pat_place.specs.Placements.{ShownPlacement, IsFree, IsPlacement}
 use Rattle.pat_place.specs.Ranks.{IsRank}
-use Rattle.tab_lanes.specs.LocalRule.{goal_slot, other_slot, without_region}
+use Rattle.tab_file.specs.EntryRules.{goal_slot, other_slot, without_region}
 use Rattle.tab_file.specs.Tables.{Table, IsTable, slot_count}
 use Rattle.tab_rule.specs.Blocks.{block_ranks}
 use Rattle.tab_columns.specs.Moves.{IsRegion}

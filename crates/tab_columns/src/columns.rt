@@ -8,7 +8,7 @@ ghost use Rattle.tab_rule.specs.Blocks.{block_ranks};
 ghost use Rattle.tab_columns.specs.Columns.{HaveRanks, IsKindByMask, most_entries};
 
 use pat_place::{Pattern, Placement, next, unrank};
-use tab_lanes::{GOAL_SLOT, OTHER_SLOT, WITHOUT_REGION};
+use tab_file::{GOAL_SLOT, OTHER_SLOT, WITHOUT_REGION};
 use tab_rule::BLOCK_RANKS;
 
 /// The most placements that a block has.

@@ -1,4 +1,6 @@
+mod CountLemmas
 mod FaultLemmas
 pub mod FileLemmas
+mod GreatestLemmas
 mod HeaderLemmas
 mod TableLemmas

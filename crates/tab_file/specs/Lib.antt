@@ -1,5 +1,7 @@
 -- What public contracts say.
 pub mod EntryBytes
+pub mod EntryRules
+pub mod Counts
 pub mod Tables
 pub mod TableFiles
 pub mod HeadFields

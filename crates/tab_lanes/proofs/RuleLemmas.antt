@@ -8,7 +8,8 @@ use Rattle.std.proofs.lemmas.Simd.{get_or-chunk}
 use lib.Lanes.{chunk, zip2}
 use Rattle.puz_board.proofs.BitLemmas.{in_below}
 use Rattle.tab_lanes.proofs.FlagLemmas.{AreFlags, flag, lanes_given, splat, lane_by_lane, compared, joined, turned}
-use Rattle.tab_lanes.specs.LocalRule.{KeepsRuleOfKind, no_region, goal, one_more, never, KeepsRuleAt, KeepRuleBetween}
+use Rattle.tab_file.specs.EntryRules.{KeepsRuleOfKind, no_region, goal, one_more, never}
+use Rattle.tab_lanes.specs.LocalRule.{KeepsRuleAt, KeepRuleBetween}
 
 -- the rule as the vectors test it, for a slot of the last kind, and for any
 abbrev pub keeps_other : ℕ → ℕ → ℕ → Bool

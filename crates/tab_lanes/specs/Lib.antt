@@ -1,5 +1,4 @@
 -- What public contracts say.
-pub mod Counts
 pub mod Floods
 pub mod LocalRule
 -- What proofs alone need.

@@ -4,8 +4,8 @@ ghost use Rattle.std.specs.Prelude.{◌≡◌, ◌+◌, ◌<◌, ◌≤◌, leng
 ghost use Rattle.std.specs.Simd.Lanes.{zip2};
 ghost use Rattle.tab_lanes.specs.Columns.{AreLesserBetween};
 
-use crate::LANES;
 use std::simd::prelude::*;
+use tab_file::LANES;
 
 /// Each place takes the smaller of its two bytes. The slices are equally long.
 pub fn min_into(least: &mut [u8], others: &[u8])

@@ -4,14 +4,10 @@
 #![tactic(auto)]
 
 mod columns;
-mod counts;
 mod floods;
 mod local_rule;
 
 pub use columns::min_into;
-pub use counts::{count_eq, greatest_count};
 pub use floods::{flood, flood_step};
-pub use local_rule::{GOAL_SLOT, OTHER_SLOT, WITHOUT_REGION, first_bad};
-
-/// How many bytes one vector has.
-pub(crate) const LANES: usize = 64;
+pub use local_rule::first_bad;
+pub use tab_file::{count_eq, greatest_count};

@@ -4,21 +4,13 @@ ghost use Rattle.std.specs.Prelude.{◌≡◌, ℕ, ◌+◌, ◌^◌, ◌<◌, �
 ghost use Rattle.std.specs.Int.{bit_at};
 ghost use Rattle.tab_lanes.specs.LocalRule.{AllPlacesKeepRule, IsFirstBreach, KeepRuleBetween, KeepsRuleAt};
 
-use crate::LANES;
 use std::simd::prelude::*;
-use tab_file::{GREATEST_COUNT, NO_REGION, NO_WAY_HOME};
+use tab_file::{
+    GOAL_SLOT, GREATEST_COUNT, LANES, NO_REGION, NO_WAY_HOME, OTHER_SLOT, WITHOUT_REGION,
+};
 
 /// How many bytes a short vector has.
 const FEW: usize = 16;
-
-/// The kind of a slot for which the placement has no region.
-pub const WITHOUT_REGION: u8 = 0;
-
-/// The kind of the slot that has cell 0 in the goal's placement.
-pub const GOAL_SLOT: u8 = 1;
-
-/// The kind of any other slot.
-pub const OTHER_SLOT: u8 = 2;
 
 /// The first place whose entry breaks the local rule. Each place has an entry, the least entry one move away, and the
 /// kind of its slot; a byte that is none of the three kinds breaks the rule. The slices are equally long.

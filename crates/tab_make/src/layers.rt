@@ -7,7 +7,7 @@ ghost use Rattle.tab_make.specs.Pieces.{all_items};
 use rayon::prelude::*;
 use std::alloc::{AllocError, Global};
 use std::thread::Threads;
-use tab_lanes::count_eq;
+use tab_file::count_eq;
 
 /// How many entries one piece of the work has.
 const PIECE: usize = 65_536;

@@ -16,7 +16,7 @@ use Rattle.tab_file.specs.declared.headers.HeadFault.{HeadFault}
 use Rattle.tab_file.proofs.FileLemmas.{IfErr-first, IfOk-table}
 use Rattle.tab_rule.specs.BadEntries.{IsLeastBadEntry, KeepsRule}
 use Rattle.tab_rule.proofs.BlockLemmas.{IsFirstBadSlot, SlotsKeepRule, keeps_more, least_bad_in}
-use Rattle.tab_lanes.specs.Counts.{IsGreatestCount}
+use Rattle.tab_file.specs.Counts.{IsGreatestCount}
 use Rattle.tab_rule.specs.Counts.{IsCensusOf}
 use Rattle.tab_rule.specs.ExactTables.{IsExactFile}
 use Rattle.tab_rule.specs.LocalRule.{LocalRule}

@@ -4,7 +4,7 @@ use Rattle.std.specs.Prelude.{◌↔◌}
 use Rattle.std.proofs.lemmas.Bool.{cases_eq, cases_lt}
 use Rattle.pat_place.specs.Patterns.{ShownPattern, IsPattern}
 use Rattle.pat_place.proofs.JoinLemmas.{Decided}
-use Rattle.tab_lanes.specs.LocalRule.{KeepsRuleOfKind, no_region as by_no_region, goal as by_goal, one_more as by_one_more, never as by_never}
+use Rattle.tab_file.specs.EntryRules.{KeepsRuleOfKind, no_region as by_no_region, goal as by_goal, one_more as by_one_more, never as by_never}
 use Rattle.tab_file.specs.Tables.{Table}
 use Rattle.tab_rule.specs.Entries.{HasNoRegion, HasRegion}
 use Rattle.tab_rule.specs.LocalRule.{IsGoalSlot, IsKindOf, IsLeastNear, IsLeastOf, IsNearEntry, LocalRule, no_region as of_no_region, goal as of_goal}

@@ -10,7 +10,7 @@ use Rattle.pat_place.specs.Placements.{IsFree, placement_of}
 use Rattle.pat_place.specs.Regions.{IsSlot}
 use Rattle.pat_place.proofs.BoardOf.{board_of}
 use Rattle.tab_file.specs.Tables.{Table, IsTable}
-use Rattle.tab_lanes.specs.LocalRule.{KeepsRuleOfKind, no_region as by_no_region, goal as by_goal, one_more as by_one_more, never as by_never}
+use Rattle.tab_file.specs.EntryRules.{KeepsRuleOfKind, no_region as by_no_region, goal as by_goal, one_more as by_one_more, never as by_never}
 use Rattle.tab_rule.specs.Entries.{HasRegion, IsEntryAt}
 use Rattle.tab_rule.specs.ExactTables.{AreExact}
 use Rattle.tab_rule.specs.Limits.{EntryKeepsUpTo, HasBoardOfCost, IsPassed, IsPast, KeepsRuleUpTo, Ruled, no_region, goal, one_more, never, past}

@@ -4,7 +4,7 @@ use Rattle.std.specs.Prelude.{slice_index}
 use Rattle.tab_file.specs.Tables.{Table}
 use Rattle.tab_file.proofs.FileLemmas.{IsFirstFault-one, table_one, table_or_fault}
 use Rattle.tab_rule.specs.BadEntries.{IsLeastBadEntry}
-use Rattle.tab_lanes.specs.Counts.{IsGreatestCount}
+use Rattle.tab_file.specs.Counts.{IsGreatestCount}
 use Rattle.tab_rule.specs.Counts.{IsCensusOf}
 use Rattle.tab_rule.specs.ExactTables.{IsExactFile}
 use Rattle.tab_rule.specs.TableFaults.{IsTableFaultOf}

@@ -2,7 +2,7 @@
 use Rattle.std.specs.Prelude.{◌≡◌, ℕ, ◌<◌, ◌==◌, count_by, List, length, slice_index}
 use Rattle.puz_board.specs.Boards.{cell_of}
 use Rattle.puz_board.specs.Costs.{IsLeastCost, IsNeverHome}
-use Rattle.tab_lanes.specs.Counts.{IsGreatestCount}
+use Rattle.tab_file.specs.Counts.{IsGreatestCount}
 use Rattle.tab_file.specs.EntryBytes.{no_way_home}
 use Rattle.tab_rule.specs.declared.census.Census.{Census}
 use Rattle.tab_rule.specs.declared.tables.Count.{Count}

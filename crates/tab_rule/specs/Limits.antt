@@ -5,7 +5,7 @@ use Rattle.puz_board.specs.Costs.{IsLeastCost}
 use Rattle.pat_place.specs.Patterns.{ShownPattern}
 use Rattle.tab_file.specs.EntryBytes.{no_region_entry, no_way_home}
 use Rattle.tab_file.specs.Tables.{Table}
-use Rattle.tab_lanes.specs.LocalRule.{goal_slot, other_slot, without_region}
+use Rattle.tab_file.specs.EntryRules.{goal_slot, other_slot, without_region}
 use Rattle.tab_rule.specs.Entries.{IsEntryNumber}
 use Rattle.tab_rule.specs.LocalRule.{IsKindOf, IsLeastNear}
 

@@ -3,7 +3,7 @@ use Rattle.std.specs.Prelude.{◌≡◌, ℕ, ◌<◌, ◌≤◌, ◌⊎◌, Lis
 use Rattle.puz_board.specs.Cells.{Adjacent}
 use Rattle.pat_place.specs.Patterns.{ShownPattern}
 use Rattle.pat_place.specs.Regions.{IsSlot}
-use Rattle.tab_lanes.specs.LocalRule.{KeepsRuleOfKind, goal_slot, other_slot, without_region}
+use Rattle.tab_file.specs.EntryRules.{KeepsRuleOfKind, goal_slot, other_slot, without_region}
 use Rattle.tab_file.specs.Tables.{Table}
 use Rattle.tab_rule.specs.Entries.{HasNoRegion, HasRegion, IsEntryAt}
 use Rattle.tab_file.specs.EntryBytes.{no_way_home}

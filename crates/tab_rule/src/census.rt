@@ -2,8 +2,7 @@
 
 ghost use Rattle.tab_rule.specs.Counts.{IsCensusOf};
 
-use tab_file::NO_WAY_HOME;
-use tab_lanes::{count_eq, greatest_count};
+use tab_file::{NO_WAY_HOME, count_eq, greatest_count};
 
 /// How many entries a table has, how many of them say that no walk leads home, and the greatest count.
 #[derive(Clone, Copy, Debug, PartialEq, Eq)]

@@ -14,7 +14,8 @@ use Rattle.tab_rule.specs.LocalRule.{IsKindOf, IsLeastNear, LocalRule}
 use Rattle.tab_rule.proofs.CaseLemmas.{rule_by_numbers}
 use Rattle.tab_rule.proofs.EntryNumberLemmas.{entry_cells, entry_number, entry_placement, entry_rank}
 use Rattle.tab_file.specs.Tables.{Table, slot_count}
-use Rattle.tab_lanes.specs.LocalRule.{AllPlacesKeepRule, IsFirstBreach, KeepsRuleAt, KeepsRuleOfKind}
+use Rattle.tab_file.specs.EntryRules.{KeepsRuleOfKind}
+use Rattle.tab_lanes.specs.LocalRule.{AllPlacesKeepRule, IsFirstBreach, KeepsRuleAt}
 use Rattle.tab_runs.specs.Checks.{AreKinds, IsFirstBadPlace, RunKeepsRule}
 use Rattle.tab_runs.specs.RunPlaces.{AreRunEntries, IsFirstRank, IsRun, run_length}
 use Rattle.tab_runs.specs.Runs.{free_below, with_last}

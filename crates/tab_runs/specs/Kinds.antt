@@ -4,7 +4,7 @@ use Rattle.std.specs.Int.{bit_at}
 use Rattle.pat_place.specs.Patterns.{has}
 use Rattle.pat_place.specs.Placements.{IsFree}
 use Rattle.tab_rule.specs.Entries.{HasNoRegion, HasRegion}
-use Rattle.tab_lanes.specs.LocalRule.{other_slot, without_region}
+use Rattle.tab_file.specs.EntryRules.{other_slot, without_region}
 use Rattle.tab_runs.specs.Runs.{free_below, with_last}
 
 -- the byte says whether the slot has a region

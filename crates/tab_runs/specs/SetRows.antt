@@ -5,7 +5,7 @@ use Rattle.pat_place.specs.Patterns.{ShownPattern, width}
 use Rattle.pat_place.specs.Placements.{IsFree}
 use Rattle.pat_place.specs.Regions.{IsSlot}
 use Rattle.tab_file.specs.Tables.{slot_count}
-use Rattle.tab_lanes.specs.LocalRule.{other_slot}
+use Rattle.tab_file.specs.EntryRules.{other_slot}
 use Rattle.tab_runs.specs.Kinds.{TellsRegion}
 use Rattle.tab_runs.specs.Rows.{IsOpen, listed_below, place_in_run, row_length}
 use Rattle.tab_runs.specs.Runs.{free_below, with_last}

@@ -6,7 +6,7 @@ ghost use Rattle.pat_place.specs.Ranks.{IsRank};
 ghost use Rattle.tab_rule.specs.Blocks.{BlockKeepsRule, IsLeastBadIn, block_count};
 ghost use Rattle.tab_rule.specs.Entries.{IsGoalNumber};
 ghost use Rattle.tab_file.specs.Tables.{placement_count, slot_count};
-ghost use Rattle.tab_lanes.specs.LocalRule.{goal_slot};
+ghost use Rattle.tab_file.specs.EntryRules.{goal_slot};
 ghost use Rattle.tab_runs.specs.Checks.{ArePlacesOf, IsFirstBadPlace, RunKeepsRule};
 ghost use Rattle.tab_runs.specs.Parts.{EntriesKeepRule, IsFirstBadEntry};
 ghost use Rattle.tab_runs.specs.RunPlaces.{most_run_entries};
@@ -22,21 +22,24 @@ use crate::runs::{BYTE_PLACES, Run, RunCells, RunKinds, run_entries};
 use pat_place::{Pattern, Placement, next, unrank};
 use puz_board::masks;
 use std::ops::Range;
-use tab_columns::check_block;
-use tab_file::TableView;
-use tab_lanes::{GOAL_SLOT, WITHOUT_REGION};
+use tab_file::{GOAL_SLOT, TableView, WITHOUT_REGION};
 use tab_rule::{BLOCK_RANKS, goal_number};
 
 /// The table of rows doesn't have a set of cells.
-#[derive(Clone, Copy)]
-struct MissingRow;
+#[derive(Clone, Copy, Debug, PartialEq, Eq)]
+pub struct MissingRow;
 
-/// The number of a block's least entry that breaks the local rule, as `check_block` of `tab_columns` answers it. The rows are
-/// those of the table's side and number of tiles; where they lack a set, the block is checked without them.
-pub fn check_runs(table: &TableView<'_>, rows: &RowTable, block: u64) -> Option<u64>
+/// The number of a block's least entry that breaks the local rule. The rows are those of the table's side and number of tiles;
+/// where they lack a set of the block, nothing is answered.
+pub fn check_runs(
+    table: &TableView<'_>,
+    rows: &RowTable,
+    block: u64,
+) -> Result<Option<u64>, MissingRow>
     requires block { block < block_count table.now.pattern }
     requires rows { rows.now ≡ rows_for table.now.pattern }
-    ensures { MatchOption result (BlockKeepsRule table.now block) (IsLeastBadIn table.now block) }
+    ensures { IfOk result (λ found.
+        MatchOption found (BlockKeepsRule table.now block) (IsLeastBadIn table.now block)) }
 {
     let pattern = table.pattern();
     let run = placements_of_run(&pattern);
@@ -47,17 +50,14 @@ pub fn check_runs(table: &TableView<'_>, rows: &RowTable, block: u64) -> Option<
     let mut from = first;
     'runs: while from < end {
         let to = end.min(from - from % run + run);
-        match check_run(table, rows, goal, &placement, from..to) {
-            Ok(None) => {
-                from = to;
-                placement = last_of_run(&pattern, &placement);
-                next(&mut placement);
-            }
-            Ok(Some(number)) => return Some(number),
-            Err(_) => return check_block(table, block),
+        if let Some(number) = check_run(table, rows, goal, &placement, from..to)? {
+            return Ok(Some(number));
         }
+        from = to;
+        placement = last_of_run(&pattern, &placement);
+        next(&mut placement);
     }
-    None
+    Ok(None)
 }
 
 /// The last placement of a placement's run.

@@ -11,5 +11,5 @@ mod rows;
 mod runs;
 mod set_rows;
 
-pub use blocks::check_runs;
+pub use blocks::{MissingRow, check_runs};
 pub use rows::{KeptSet, RowTable};

@@ -14,7 +14,7 @@ use arrayvec::ArrayVec;
 use pat_place::{Pattern, find_region, next, put_numbers, rank_among, regions, unrank};
 use puz_board::masks;
 use std::alloc::{AllocError, Global};
-use tab_lanes::OTHER_SLOT;
+use tab_file::OTHER_SLOT;
 
 /// A placement of a run, as a column of the rows.
 #[derive(Clone, Copy)]

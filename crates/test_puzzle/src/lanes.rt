@@ -7,10 +7,8 @@ use crate::given::side_of;
 use puz_board::masks::{has_cell, with};
 use puz_board::{Move, Side, step};
 use std::test::Fail;
-use tab_lanes::{
-    GOAL_SLOT, OTHER_SLOT, WITHOUT_REGION, count_eq, first_bad, flood, flood_step, greatest_count,
-    min_into,
-};
+use tab_file::{GOAL_SLOT, OTHER_SLOT, WITHOUT_REGION};
+use tab_lanes::{count_eq, first_bad, flood, flood_step, greatest_count, min_into};
 
 /// Two whole vectors of bytes, and two places.
 const MOST: usize = 130;

@@ -19,7 +19,9 @@ fn bad_entries<R: AllocGlobal + Abort>(rt: &R, file: &[u8]) -> Result<Vec<u64>, 
     let rows = RowTable::build(rt.alloc(), &table.pattern())?;
     let mut found = Vec::new(rt.alloc());
     for block in 0..block_count(&table.pattern()) {
-        let number = check_runs(&table, &rows, block);
+        let number = check_runs(&table, &rows, block)
+            .ok()
+            .expect(rt, "the rows of each set");
         assert_eq!(rt; number, check_block(&table, block), "block {block}");
         if let Some(number) = number {
             found.push(number)?;

@@ -41,7 +41,7 @@ runs-preserved c =
       begun = (let m = c.min-to.ensures in let s = c.placements_of_run-run.ensures.some in let b = c.runs.invariant.begun in
           let l = c.runs-test.true in omega arith);
       kept = entries_more t (first_of_block t.pattern c.args.block) low high c.runs.invariant.kept
-          (subst (λ f. MatchOption f (EntriesKeepRule t low high) (IsFirstBadEntry t low high)) c.in-Ok-None.field-0-is c.in-Ok-None.ensures);
+          (subst (λ f. MatchOption f (EntriesKeepRule t low high) (IsFirstBadEntry t low high)) c.in_default.is c.in_ok-number.ensures);
       pattern = c.next.ensures.pattern ∙ c.last_of_run-placement.ensures.pattern ∙ c.pattern-pattern.ensures.pattern;
       placement = c.next.ensures.placement;
       rank = λ l.
@@ -68,14 +68,14 @@ runs-preserved c =
     }
 
 -- the first bad entry of a run, behind runs that keep the rule, is the least bad one of the block
-pub returns-in-Ok-Some : goal.returns-in-Ok-Some
-returns-in-Ok-Some c =
+pub returns-in-Some : goal.returns-in-Some
+returns-in-Some c =
     let t = c.args.table.now in
     let low = c.runs.from * slot_count t.pattern in
     let high = c.min-to.result * slot_count t.pattern in
-    block_bad t c.args.block c.runs.from c.min-to.result c.in-Ok-Some.number c.runs.invariant.begun (let m = c.min-to.ensures in
+    block_bad t c.args.block c.runs.from c.min-to.result c.in-Some.number c.runs.invariant.begun (let m = c.min-to.ensures in
     let e = c.min-end.ensures in omega arith) c.runs.invariant.kept
-    (subst (λ f. MatchOption f (EntriesKeepRule t low high) (IsFirstBadEntry t low high)) c.in-Ok-Some.field-0-is c.in-Ok-Some.ensures)
+    (subst (λ f. MatchOption f (EntriesKeepRule t low high) (IsFirstBadEntry t low high)) c.in-Some.is c.in_ok-number.ensures)
 
 -- where all runs up to the block's end keep the rule, the block does
 pub returns : goal.returns

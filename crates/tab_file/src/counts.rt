@@ -1,11 +1,13 @@
-//! Counts over a column of bytes.
+//! Counts among the bytes of entries.
 
 ghost use Rattle.std.specs.Prelude.{◌≡◌, ℕ, ◌+◌, ◌<◌, ◌≤◌, ◌⊎◌, ◌==◌, count_by, length, slice_index, take};
-ghost use Rattle.tab_lanes.specs.Counts.{IsGreatestCount};
+ghost use Rattle.tab_file.specs.Counts.{IsGreatestCount};
 
-use crate::LANES;
+use crate::entries::GREATEST_COUNT;
 use std::simd::prelude::*;
-use tab_file::GREATEST_COUNT;
+
+/// How many bytes are taken at once.
+pub const LANES: usize = 64;
 
 /// How many of the bytes are this one.
 pub fn count_eq(bytes: &[u8], byte: u8) -> u64

@@ -1,6 +1,6 @@
 use Rattle.std.proofs.Common.{◌≡◌, ◌-◌, ◌≤◌, eqb, length, take}
 use Rattle.std.specs.Prelude.{count_by}
-use Rattle.tab_lanes.proofs.counts.count_by_lanes.Given as goal
+use Rattle.tab_file.proofs.counts.count_by_lanes.Given as goal
 
 -- the count is that of the equal bytes up to here, and here is at most the end
 abbrev pub invariant-lanes : goal.invariant-lanes

@@ -1,6 +1,6 @@
 use Rattle.std.proofs.Common.{◌+◌, ◌≤◌, arith, length}
-use Rattle.tab_lanes.proofs.GreatestLemmas.{greatest_more}
-use Rattle.tab_lanes.proofs.counts.greatest_by_lanes.Goals as goal
+use Rattle.tab_file.proofs.GreatestLemmas.{greatest_more}
+use Rattle.tab_file.proofs.counts.greatest_by_lanes.Goals as goal
 
 -- with one vector of bytes taken in, the lanes have the greatest counts up to its end
 pub lanes-preserved : goal.lanes-preserved

@@ -1,5 +1,5 @@
 use Rattle.std.proofs.Common.{◌≡◌, ℕ, ◌<◌, ◌≤◌, ◌⊎◌, get_or}
-use Rattle.tab_lanes.proofs.counts.greatest_of.Given as goal
+use Rattle.tab_file.proofs.counts.greatest_of.Given as goal
 
 -- the greatest of the bytes before this one is at hand, or 0 where there are none
 abbrev pub invariant-loop-byte : goal.invariant-loop-byte

@@ -1,6 +1,6 @@
 use Rattle.std.proofs.Common.{◌+◌, ◌<◌, ◌≤◌, ◌^◌, arith, length, rules}
-use Rattle.tab_lanes.proofs.CountLemmas.{counted_more, counted_few}
-use Rattle.tab_lanes.proofs.counts.count_by_lanes.Goals as goal
+use Rattle.tab_file.proofs.CountLemmas.{counted_more, counted_few}
+use Rattle.tab_file.proofs.counts.count_by_lanes.Goals as goal
 
 -- the count of equal bytes, with those of one vector more, fits in 64 bits
 pub overflow_add-count : goal.overflow_add-count

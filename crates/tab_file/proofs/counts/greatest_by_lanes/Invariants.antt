@@ -1,6 +1,6 @@
 use Rattle.std.proofs.Common.{◌-◌, ◌≤◌, length}
-use Rattle.tab_lanes.proofs.GreatestLemmas.{AreGreatest}
-use Rattle.tab_lanes.proofs.counts.greatest_by_lanes.Given as goal
+use Rattle.tab_file.proofs.GreatestLemmas.{AreGreatest}
+use Rattle.tab_file.proofs.counts.greatest_by_lanes.Given as goal
 
 -- the lanes have the greatest counts of the bytes up to here, and here is at most the end
 abbrev pub invariant-lanes : goal.invariant-lanes
