@@ -15,7 +15,7 @@ use Rattle.tab_runs.specs.Runs.{free_below, with_last}
 use Rattle.edge_words.specs.StoredWords.{AreStrides}
 use Rattle.edge_words.specs.Words.{move_of}
 use Rattle.edge_words.specs.declared.lookups.Lookup.TheInside.{Inside}
-use Rattle.edge_words.specs.declared.runs.Run.{Run}
+use Rattle.edge_words.specs.declared.runs.RunView.{RunView}
 
 -- for each cell and each move's number there is the cell from which the move leads there
 pub record AreOrigins (n : ℕ) (origins : List (Option ℕ)) : Type 0 where
@@ -50,7 +50,7 @@ pub record AreEntriesOf (p : ShownPattern) (cells own : List ℕ) : Type 0 where
       → SaysOfAll p (with_last cells last) cell (slice_index own (free_below cells last * slot_count p + slot))
 
 -- what is kept of a run is that of its cells
-pub record IsRunOf (p : ShownPattern) (r : Run) : Type 0 where
+pub record IsRunOf (p : ShownPattern) (r : RunView) : Type 0 where
   pub room : length r.cells ≡ 8
   pub run : IsRun p (but_last p r.cells)
   pub set : IsMaskOf r.set (λ c. has (but_last p r.cells) c ≡ true)

@@ -15,7 +15,7 @@ ghost use Rattle.edge_words.specs.OddEdges.{HasOddEdge};
 
 use crate::edges::words_of;
 use crate::lookups::Lookup;
-use crate::runs::Run;
+use crate::runs::RunView;
 use pat_place::Pattern;
 use puz_board::masks::{has_cell, with};
 use std::thread::{Threads, join_mut};
@@ -89,7 +89,7 @@ fn fill(lookup: &Lookup<'_>, span: &Span, words: &mut [u32]) -> bool
 /// Fills in the words of a run's placements, where those of the span's runs with lower indexes are there.
 fn fill_run(
     lookup: &Lookup<'_>,
-    run: &Run<'_>,
+    run: &RunView<'_>,
     index: usize,
     span: &Span,
     words: &mut [u32],
@@ -114,7 +114,7 @@ fn fill_run(
 }
 
 /// The run with an index, where no two of its tiles are in the same cell.
-fn run_at<'a>(lookup: &'a Lookup<'_>, index: usize) -> Option<Run<'a>>
+fn run_at<'a>(lookup: &'a Lookup<'_>, index: usize) -> Option<RunView<'a>>
     requires index { index < run_count lookup.now }
     ensures { MatchOption result
         ((cells : List ℕ) → IsRun lookup.now cells → index_in lookup.now cells ≢ index)

@@ -16,7 +16,7 @@ ghost use Rattle.edge_words.specs.Lookups.{AreEntriesOf, AreOrigins, HaveEntries
 ghost use Rattle.edge_words.specs.Words.{move_of};
 
 use crate::indexes::strides_of;
-use crate::runs::Run;
+use crate::runs::RunView;
 use pat_place::{Pattern, rank_among, slot_of, unrank};
 use puz_board::masks::{all_below, count_below};
 use puz_board::{Move, Side, step};
@@ -87,7 +87,7 @@ impl<'a> Lookup<'a> {
 
     /// The run with these cells, whose mask is given.
     #[inline]
-    pub(crate) fn run_of(&self, cells: [u8; 8], set: u32) -> Run<'_>
+    pub(crate) fn run_of(&self, cells: [u8; 8], set: u32) -> RunView<'_>
         requires room { length cells ≡ 8 }
         requires run { IsRun self.now (but_last self.now cells) }
         requires set { IsMaskOf set (λ c. has (but_last self.now cells) c ≡ true) }
@@ -98,7 +98,7 @@ impl<'a> Lookup<'a> {
         let others = usize::from(self.pattern.size()) - 1;
         let rank = rank_among(&cells[..others], count);
         let first = rank * (u64::from(count) - others as u64);
-        Run {
+        RunView {
             cells,
             set,
             free: all_below(count) & !set,
@@ -141,6 +141,7 @@ impl<'a> Lookup<'a> {
         ensures origin { result ≡ step_of self.now.side cell (reverse_of (move_of number)) }
         ensures within { IfSome result (λ from. from < self.now.side * self.now.side) }
     {
+        // Asked only for what its contract says.
         let _side = self.pattern.side();
         self.origins[usize::from(4 * cell + number % 4)]
     }
@@ -170,7 +171,7 @@ impl<'a> Lookup<'a> {
     /// The entry of the run's placement with the last tile in a cell, where the blank is in another one, which has this place
     /// among the rows of the run's set.
     #[inline(always)]
-    pub(crate) fn entry(&self, run: &Run<'_>, cell: u8, last: u8, place: usize) -> u8
+    pub(crate) fn entry(&self, run: &RunView<'_>, cell: u8, last: u8, place: usize) -> u8
         requires run { IsRunOf self.now run.now }
         requires open { IsOpen self.now.side (but_last self.now run.now.cells) cell last }
         requires place { let p = self.now in place ≡ cell * row_length p.side (length p.tiles)
@@ -186,7 +187,7 @@ impl<'a> Lookup<'a> {
     }
 
     /// The same, by a flood.
-    fn found_entry(&self, run: &Run<'_>, cell: u8, last: u8) -> u8
+    fn found_entry(&self, run: &RunView<'_>, cell: u8, last: u8) -> u8
         requires run { IsRunOf self.now run.now }
         requires open { IsOpen self.now.side (but_last self.now run.now.cells) cell last }
         ensures { let cells = with_last (but_last self.now run.now.cells) last in
@@ -198,7 +199,7 @@ impl<'a> Lookup<'a> {
     }
 
     /// The slot of a free cell of that placement.
-    fn slot_of(&self, run: &Run<'_>, last: u8, cell: u8) -> u8
+    fn slot_of(&self, run: &RunView<'_>, last: u8, cell: u8) -> u8
         requires run { IsRunOf self.now run.now }
         requires last { IsFree self.now.side (but_last self.now run.now.cells) last }
         requires free { let cells = with_last (but_last self.now run.now.cells) last in
@@ -211,7 +212,7 @@ impl<'a> Lookup<'a> {
     }
 
     /// The rank of the run's placement with the last tile in a cell.
-    fn rank_of(&self, run: &Run<'_>, last: u8) -> u64
+    fn rank_of(&self, run: &RunView<'_>, last: u8) -> u64
         requires run { IsRunOf self.now run.now }
         requires last { IsFree self.now.side (but_last self.now run.now.cells) last }
         ensures { IsRank self.now.side (with_last (but_last self.now run.now.cells) last) result }

@@ -2,7 +2,7 @@
 
 /// A run of a table.
 #[derive(Clone, Copy)]
-pub(crate) struct Run<'a> {
+pub(crate) struct RunView<'a> {
     /// The cells of all tiles but the last. Any numbers stand behind them.
     pub(crate) cells: [u8; 8],
     /// These cells as a mask.

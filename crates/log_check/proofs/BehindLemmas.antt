@@ -9,7 +9,7 @@ use Rattle.log_file.specs.Logs.{Log}
 use Rattle.log_check.specs.Nodes.{BeginsWith, BeginsWithNone}
 use Rattle.log_check.specs.Refutations.{takes_back}
 use Rattle.log_check.specs.Walks.{AreNeverPending, AreWalked, MayHave, with_node}
-use Rattle.log_check.specs.declared.nodes.Node.{Node}
+use Rattle.log_check.specs.declared.nodes.TreeNode.{TreeNode}
 use Rattle.log_check.proofs.NodeLemmas.{node_bytes-step, none-pending}
 use Rattle.log_check.proofs.Pending.{Pending, Waiting, with_child, with_child_at}
 
@@ -99,7 +99,7 @@ module _ (v : ShownBundle) (log : Log) (i : ℕ) where
     pub refused_none : BeginsWithNone log.version (length v.sets) bytes → AreNeverPending v log i (λ ws. w ∷ ws) bytes
     refused_none none ws = none-pending v few log i fits w ws bytes none
 
-    module _ (node : Node) (between : List ℕ) (begins : BeginsWith log.version (length v.sets) node between bytes) where
+    module _ (node : TreeNode) (between : List ℕ) (begins : BeginsWith log.version (length v.sets) node between bytes) where
       -- a board never waits for bytes that begin with a node it may not have
       pub refused_node : ¬ MayHave v log i w node → AreNeverPending v log i (λ ws. w ∷ ws) bytes
       refused_node none ws p = none ((node_bytes-step v few log i fits w ws bytes node between begins).0 p).0

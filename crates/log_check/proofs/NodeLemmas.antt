@@ -12,8 +12,8 @@ use Rattle.log_check.specs.Nodes.{BeginsWith, BeginsWithNone, IsNode, node_bytes
 use Rattle.log_check.specs.Refutations.{Cites, Refutes}
 use Rattle.log_check.specs.Trees.{Tree, absent, branch, citation, leaf, spelling}
 use Rattle.log_check.specs.Walks.{MayHave, Waiting, all_moves, with_children, with_node}
-use Rattle.log_check.specs.declared.nodes.Node.{Node}
-use Rattle.log_check.specs.declared.nodes.Node.TheVariants.{Branch, Citation, Leaf}
+use Rattle.log_check.specs.declared.nodes.TreeNode.{TreeNode}
+use Rattle.log_check.specs.declared.nodes.TreeNode.TheVariants.{Branch, Citation, Leaf}
 use Rattle.log_check.proofs.DecideLemmas.{AreBoards, children_boards}
 use Rattle.log_check.proofs.Pending.{Pending}
 use Rattle.log_check.proofs.WalkLemmas.{branch_byte, citation_byte, good_is_pending, leaf_byte, lemma_waiting}
@@ -61,18 +61,18 @@ Cites-bound lemmas i j b r bound within earlier board_is bound_is = (
 -- ---- the node of the board that waits first
 
 -- the bytes begin with a node, for one version and number of sets as for the same ones
-pub BeginsWith-same : {version sets also_version also_sets : ℕ} (node : Node) (behind bytes : List ℕ) → version ≡ also_version → sets ≡ also_sets
+pub BeginsWith-same : {version sets also_version also_sets : ℕ} (node : TreeNode) (behind bytes : List ℕ) → version ≡ also_version → sets ≡ also_sets
     → BeginsWith version sets node behind bytes → BeginsWith also_version also_sets node behind bytes
 BeginsWith-same node behind bytes versions counts begins =
     subst (λ A. A) (ap₂ (λ version sets. BeginsWith version sets node behind bytes) versions counts) begins
 
 module _ (v : ShownBundle) (few : length v.sets ≤ 16) (log : Log) (i : ℕ) (fits : i < 2 ^ 32) (w : Waiting) (ws : List Waiting) (bytes : List ℕ) where
   -- it is a node that it may have, and the boards behind wait for the bytes behind
-  pub node_bytes-step : (node : Node) (behind : List ℕ) → BeginsWith log.version (length v.sets) node behind bytes
+  pub node_bytes-step : (node : TreeNode) (behind : List ℕ) → BeginsWith log.version (length v.sets) node behind bytes
       → Pending v log i (w ∷ ws) bytes ↔ (MayHave v log i w node × Pending v log i (with_node node w ws) behind)
   node_bytes-step node behind begins = go node begins.is_node begins.are
     where
-      go : (node : Node) → IsNode log.version (length v.sets) node → bytes ≡ node_bytes node ++ behind
+      go : (node : TreeNode) → IsNode log.version (length v.sets) node → bytes ≡ node_bytes node ++ behind
           → Pending v log i (w ∷ ws) bytes ↔ (MayHave v log i w node × Pending v log i (with_node node w ws) behind)
       go Branch is are =
           let step = subst (λ bs. Pending v log i (w ∷ ws) bs ↔ ((¬ IsGoal w.board) × (1 ≤ w.bound) × Pending v log i (with_children w all_moves ws) behind))
@@ -99,13 +99,13 @@ module _ (v : ShownBundle) (few : length v.sets ≤ 16) (log : Log) (i : ℕ) (f
 -- ---- the walk
 
 -- a node that is no branch leaves the boards behind as they are
-pub with_node-other : (node : Node) (w : Waiting) (ws : List Waiting) → ¬ (node ≡ Branch) → with_node node w ws ≡ ws
+pub with_node-other : (node : TreeNode) (w : Waiting) (ws : List Waiting) → ¬ (node ≡ Branch) → with_node node w ws ≡ ws
 with_node-other Branch w ws other = absurd (other refl)
 with_node-other (Leaf by_parity set) w ws other = refl
 with_node-other (Citation lemma) w ws other = refl
 
 -- where all boards that wait are of side n, so are those that wait behind a node
-pub AreBoards-node : (n : ℕ) (node : Node) (w : Waiting) (ws : List Waiting) → AreBoards n (w ∷ ws) → AreBoards n (with_node node w ws)
+pub AreBoards-node : (n : ℕ) (node : TreeNode) (w : Waiting) (ws : List Waiting) → AreBoards n (w ∷ ws) → AreBoards n (with_node node w ws)
 AreBoards-node n Branch w ws boards = children_boards n w boards.0 all_moves ws boards.1
 AreBoards-node n (Leaf by_parity set) w ws boards = boards.1
 AreBoards-node n (Citation lemma) w ws boards = boards.1
@@ -131,7 +131,7 @@ root-pending v log i within board bound tree ws board_is bound_is tree_is none =
 
 -- where the boards wait for the bytes whenever something holds, those behind the node wait for the bytes behind
 pub walked : (v : ShownBundle) → length v.sets ≤ 16 → (log : Log) (i : ℕ) → i < 2 ^ 32 → (w : Waiting) (ws : List Waiting) (bytes : List ℕ)
-    → IsGood v log i ↔ Pending v log i (w ∷ ws) bytes → (node : Node) (behind : List ℕ) → BeginsWith log.version (length v.sets) node behind bytes
+    → IsGood v log i ↔ Pending v log i (w ∷ ws) bytes → (node : TreeNode) (behind : List ℕ) → BeginsWith log.version (length v.sets) node behind bytes
     → MayHave v log i w node → (now : List Waiting) → now ≡ with_node node w ws → IsGood v log i ↔ Pending v log i now behind
 walked v few log i fits w ws bytes good node behind begins may now is =
     let step = node_bytes-step v few log i fits w ws bytes node behind begins in

@@ -6,5 +6,5 @@ pub mod Refutations
 pub mod Trees
 -- What proofs alone need.
 pub mod Nodes
-pub mod Reached
+pub mod PendingBoard
 pub mod Walks

@@ -7,8 +7,8 @@ use Rattle.set_sum.specs.Bundles.{ShownBundle, SaysAtLeast}
 use Rattle.log_file.specs.Logs.{Log}
 use Rattle.log_check.specs.Refutations.{Cites, Refutes, takes_back}
 use Rattle.log_check.specs.Trees.{Tree, spelling}
-use Rattle.log_check.specs.declared.nodes.Node.{Node}
-use Rattle.log_check.specs.declared.nodes.Node.TheVariants.{Branch, Leaf, Citation}
+use Rattle.log_check.specs.declared.nodes.TreeNode.{TreeNode}
+use Rattle.log_check.specs.declared.nodes.TreeNode.TheVariants.{Branch, Leaf, Citation}
 
 -- A board that waits for its node: the move by which it was reached, which may be none, and its bound, below which its tree is
 -- to refute solutions.
@@ -41,13 +41,13 @@ all_moves = Up ∷ Down ∷ Left ∷ Right ∷ []
 -- ---- the node of the board that waits first
 
 -- the boards that wait behind the node
-abbrev pub with_node : Node → Waiting → List Waiting → List Waiting
+abbrev pub with_node : TreeNode → Waiting → List Waiting → List Waiting
 with_node Branch w ws = with_children w all_moves ws
 with_node (Leaf by_parity set) w ws = ws
 with_node (Citation lemma) w ws = ws
 
 -- in lemma i the board may have this node
-abbrev pub MayHave : ShownBundle → Log → ℕ → Waiting → Node → Type 0
+abbrev pub MayHave : ShownBundle → Log → ℕ → Waiting → TreeNode → Type 0
 MayHave v log i w Branch = (¬ IsGoal w.board) × (1 ≤ w.bound)
 MayHave v log i w (Leaf by_parity set) = SaysAtLeast v by_parity set w.board w.bound
 MayHave v log i w (Citation lemma) = Cites log.lemmas i lemma w.board w.bound

@@ -7,12 +7,12 @@ ghost use Rattle.set_sum.specs.Raised.{told_of};
 ghost use Rattle.tab_rule.specs.declared.tables.Count.TheVariants.{Finite};
 ghost use Rattle.log_check.specs.GoodLogs.{IsGood};
 ghost use Rattle.log_check.specs.Nodes.{IsNode};
-ghost use Rattle.log_check.specs.Reached.{waiting_of};
+ghost use Rattle.log_check.specs.PendingBoard.{waiting_of};
 ghost use Rattle.log_check.specs.Refutations.{Cites};
 ghost use Rattle.log_check.specs.Walks.{MayHave};
 
-use crate::nodes::Node;
-use crate::walks::{Reached, behind_tree};
+use crate::nodes::TreeNode;
+use crate::walks::{PendingBoard, behind_tree};
 use log_file::LogView;
 use set_sum::{Bundle, Sums};
 use tab_rule::Count;
@@ -27,7 +27,7 @@ pub fn check_lemma(log: &LogView<'_>, bundle: &Bundle<'_>, i: u32) -> bool
     ensures { IsTrue result ↔ IsGood bundle.now log.now i }
 {
     let board = log.board(i);
-    let mut root = Reached {
+    let mut root = PendingBoard {
         sums: Sums::new(bundle, &board),
         arriving: None,
         bound: log.bound(i),
@@ -39,7 +39,12 @@ pub fn check_lemma(log: &LogView<'_>, bundle: &Bundle<'_>, i: u32) -> bool
 }
 
 /// Whether a board may have this node, in lemma `i`.
-pub(crate) fn may_have(log: &LogView<'_>, i: u32, reached: &mut Reached<'_>, node: Node) -> bool
+pub(crate) fn may_have(
+    log: &LogView<'_>,
+    i: u32,
+    reached: &mut PendingBoard<'_>,
+    node: TreeNode,
+) -> bool
     requires there { i < length log.now.lemmas }
     requires side { log.now.side ≡ reached.old.sums.bundle.side }
     requires board { IsBoardOf log.now.side reached.old.sums.board }
@@ -49,14 +54,14 @@ pub(crate) fn may_have(log: &LogView<'_>, i: u32, reached: &mut Reached<'_>, nod
     ensures same { reached.new ≡ reached.old }
 {
     match node {
-        Node::Branch => reached.bound >= 1 && !reached.sums.is_goal(),
-        Node::Leaf { by_parity, set } => says_at_least(by_parity, set, reached),
-        Node::Citation(j) => cites(log, i, j, reached),
+        TreeNode::Branch => reached.bound >= 1 && !reached.sums.is_goal(),
+        TreeNode::Leaf { by_parity, set } => says_at_least(by_parity, set, reached),
+        TreeNode::Citation(j) => cites(log, i, j, reached),
     }
 }
 
 /// Whether what a set says of a board, taken by parity or not, is never, or at least the board's bound.
-fn says_at_least(by_parity: bool, set: u8, reached: &mut Reached<'_>) -> bool
+fn says_at_least(by_parity: bool, set: u8, reached: &mut PendingBoard<'_>) -> bool
     requires set { set < length reached.old.sums.bundle.sets }
     ensures least { let sums = reached.old.sums in
         IsTrue result ↔ SaysAtLeast sums.bundle by_parity set sums.board reached.old.bound }
@@ -82,7 +87,7 @@ fn told_of(by_parity: bool, sums: &Sums<'_>, sum: u16) -> u32
 }
 
 /// Whether lemma `i` may cite lemma `j` for a board.
-fn cites(log: &LogView<'_>, i: u32, j: u32, reached: &Reached<'_>) -> bool
+fn cites(log: &LogView<'_>, i: u32, j: u32, reached: &PendingBoard<'_>) -> bool
     requires there { i < length log.now.lemmas }
     requires side { log.now.side ≡ reached.now.sums.bundle.side }
     ensures { IsTrue result ↔ Cites log.now.lemmas i j reached.now.sums.board reached.now.bound }

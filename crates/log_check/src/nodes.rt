@@ -8,7 +8,7 @@ use log_file::tree_bytes::{BRANCH, CITATION, FIRST_LEAF, FIRST_PARITY_LEAF, PARI
 
 /// A node of a tree.
 #[derive(Clone, Copy)]
-pub(crate) enum Node {
+pub(crate) enum TreeNode {
     /// Its children follow.
     Branch,
     /// It takes what the set with this number says of its board, by parity or not.
@@ -18,21 +18,21 @@ pub(crate) enum Node {
 }
 
 /// The node at the front of bytes of a log of this version, where there are so many sets, and the bytes behind it.
-pub(crate) fn first_node(bytes: &[u8], version: u8, sets: u8) -> Option<(Node, &[u8])>
+pub(crate) fn first_node(bytes: &[u8], version: u8, sets: u8) -> Option<(TreeNode, &[u8])>
     requires { sets ≤ most_sets }
     ensures some { IfSome result (λ r. BeginsWith version sets r.0 r.1.now bytes.now) }
     ensures none { IfNone result (BeginsWithNone version sets bytes.now) }
 {
     match bytes {
-        [BRANCH, behind @ ..] => Some((Node::Branch, behind)),
+        [BRANCH, behind @ ..] => Some((TreeNode::Branch, behind)),
         [CITATION, a, b, c, d, behind @ ..] => {
             let lemma = u32::from_be_bytes([*a, *b, *c, *d]);
-            Some((Node::Citation(lemma), behind))
+            Some((TreeNode::Citation(lemma), behind))
         }
         [byte, behind @ ..] if FIRST_LEAF <= *byte && *byte < FIRST_LEAF + sets => {
             let set = *byte - FIRST_LEAF;
             let by_parity = false;
-            Some((Node::Leaf { by_parity, set }, behind))
+            Some((TreeNode::Leaf { by_parity, set }, behind))
         }
         [byte, behind @ ..]
             if version == PARITY_VERSION
@@ -40,7 +40,7 @@ pub(crate) fn first_node(bytes: &[u8], version: u8, sets: u8) -> Option<(Node, &
                 && *byte < FIRST_PARITY_LEAF + sets => {
             let set = *byte - FIRST_PARITY_LEAF;
             let by_parity = true;
-            Some((Node::Leaf { by_parity, set }, behind))
+            Some((TreeNode::Leaf { by_parity, set }, behind))
         }
         _ => None,
     }

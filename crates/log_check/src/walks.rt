@@ -2,11 +2,11 @@
 
 ghost use Rattle.std.specs.Prelude.{◌≡◌, ◌∷◌, ◌<◌, ◌≤◌, IfNone, IfSome, length};
 ghost use Rattle.puz_board.specs.Boards.{IsBoardOf};
-ghost use Rattle.log_check.specs.Reached.{waiting_of};
+ghost use Rattle.log_check.specs.PendingBoard.{waiting_of};
 ghost use Rattle.log_check.specs.Walks.{AreNeverPending, AreWalked, all_moves, with_child, with_children};
 
 use crate::lemmas::may_have;
-use crate::nodes::{Node, first_node};
+use crate::nodes::{TreeNode, first_node};
 use crate::order::takes_back;
 use log_file::LogView;
 use puz_board::Move;
@@ -14,7 +14,7 @@ use set_sum::Sums;
 
 /// A board that was reached, and waits for its node. It is moved in place, and moved back.
 #[derive(Drop)]
-pub(crate) struct Reached<'a> {
+pub(crate) struct PendingBoard<'a> {
     /// The board, of which the sets of the bundle are asked.
     pub(crate) sums: Sums<'a>,
     /// The move by which it was reached. None led to the board of a lemma.
@@ -28,7 +28,7 @@ pub(crate) struct Reached<'a> {
 pub(crate) fn behind_tree<'b>(
     log: &LogView<'_>,
     i: u32,
-    reached: &mut Reached<'_>,
+    reached: &mut PendingBoard<'_>,
     bytes: &'b [u8],
 ) -> Option<&'b [u8]>
     requires there { i < length log.now.lemmas }
@@ -46,7 +46,7 @@ pub(crate) fn behind_tree<'b>(
     if !may_have(log, i, reached, node) {
         return None;
     }
-    if let Node::Branch = node {
+    if let TreeNode::Branch = node {
         behind_children(log, i, reached, behind)
     } else {
         Some(behind)
@@ -58,7 +58,7 @@ pub(crate) fn behind_tree<'b>(
 fn behind_children<'b>(
     log: &LogView<'_>,
     i: u32,
-    reached: &mut Reached<'_>,
+    reached: &mut PendingBoard<'_>,
     bytes: &'b [u8],
 ) -> Option<&'b [u8]>
     requires there { i < length log.now.lemmas }
@@ -84,7 +84,7 @@ fn behind_children<'b>(
 fn behind_child<'b>(
     log: &LogView<'_>,
     i: u32,
-    reached: &mut Reached<'_>,
+    reached: &mut PendingBoard<'_>,
     mv: Move,
     bytes: &'b [u8],
 ) -> Option<&'b [u8]>

@@ -51,6 +51,7 @@ impl Placement {
         ensures { result
             ≡ record { pattern = pattern.now; cells = placement_of pattern.now.tiles board.now } }
     {
+        // Asked only for what its contract says.
         let _side = pattern.side();
         Placement::of_cells(pattern, &board.cells_of_all())
     }

@@ -12,7 +12,7 @@ use move_strings::Automaton;
 use pdb_verdict::Fault;
 use puz_board::Board;
 use puz_make::MakeFault;
-use puz_search::{Answer, Deepened, Guide, refute, shortest, shortest_by};
+use puz_search::{Deepened, Guide, SearchAnswer, refute, shortest, shortest_by};
 use set_sum::Bundle;
 use std::alloc::AllocError;
 use std::thread::Threads;
@@ -78,12 +78,12 @@ fn is_too_long<G: Gate>(guide: &Guide<'_>, board: &Board, gate: &G) -> bool
     while bound < LARGEST_BOUND {
         gate.searches(bound + 1);
         match refute(guide, board, bound + 1, u64::MAX) {
-            Answer::Refuted(boards) if boards >= MANY_BOARDS => return true,
-            Answer::Refuted(boards) => {
+            SearchAnswer::Refuted(boards) if boards >= MANY_BOARDS => return true,
+            SearchAnswer::Refuted(boards) => {
                 gate.expanded(boards);
                 bound += 2;
             }
-            Answer::Solved(_) | Answer::Spent => return false,
+            SearchAnswer::Solved(_) | SearchAnswer::Spent => return false,
         }
     }
     false

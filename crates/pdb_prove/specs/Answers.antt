@@ -12,7 +12,7 @@ use Rattle.puz_make.specs.Solvable.{HasTheBlanksParity}
 use Rattle.move_strings.specs.BoundParts.{ShownPart}
 use Rattle.puz_search.specs.Answers.{IsAnswer, IsAnswerOfPart, IsDeepened}
 use Rattle.puz_search.specs.Guides.{IsGuide, ShownGuide}
-use Rattle.puz_search.specs.declared.answers.Answer.TheVariants as search
+use Rattle.puz_search.specs.declared.answers.SearchAnswer.TheVariants as search
 use Rattle.puz_search.specs.declared.deepening.Deepened.TheVariants as deepened
 use Rattle.byte_io.specs.Shelf.{Bytes}
 use Rattle.pdb_verdict.specs.Lines.{line_of_fault}

@@ -15,8 +15,8 @@ use pdb_verdict::Fault;
 use puz_board::{Board, replay};
 use puz_make::is_solvable;
 use puz_search::{
-    Answer, Deepened, Guide, Letters, PartBound, refute, refute_by, refute_part, refute_part_by,
-    shortest, shortest_by,
+    Deepened, Guide, Letters, PartBound, SearchAnswer, refute, refute_by, refute_part,
+    refute_part_by, shortest, shortest_by,
 };
 use std::thread::Threads;
 use work_run::{Gate, Workers};
@@ -175,40 +175,40 @@ fn found_shortest(board: &Board, deepened: Deepened) -> Finding
 }
 
 /// What is found where so many moves solve a board and a search for a shorter solution answers this.
-fn found_moves(count: u16, answer: Answer) -> Finding
+fn found_moves(count: u16, answer: SearchAnswer) -> Finding
     ensures { (guide : ShownGuide) (budget : ℕ) (b moves : List ℕ) → Solves b moves count
         → IsAnswer guide b (min count 255) budget answer
         → IsOptimumFor guide budget b moves result }
 {
     match answer {
-        Answer::Refuted(_) if count <= 255 => Finding::Optimum(count),
-        Answer::Refuted(_) => Finding::Refused(Fault::K2),
-        Answer::Solved(letters) => Finding::Shorter(letters),
-        Answer::Spent => Finding::Refused(Fault::K1),
+        SearchAnswer::Refuted(_) if count <= 255 => Finding::Optimum(count),
+        SearchAnswer::Refuted(_) => Finding::Refused(Fault::K2),
+        SearchAnswer::Solved(letters) => Finding::Shorter(letters),
+        SearchAnswer::Spent => Finding::Refused(Fault::K1),
     }
 }
 
 /// What is found where a bound is claimed and a search for a solution of fewer moves answers this.
-fn found_bound(answer: Answer) -> Finding
+fn found_bound(answer: SearchAnswer) -> Finding
     ensures { (guide : ShownGuide) (budget : ℕ) (b : List ℕ) (r : ℕ)
         → IsAnswer guide b r budget answer → IsBoundFor guide budget b r result }
 {
     match answer {
-        Answer::Refuted(_) => Finding::Bound,
-        Answer::Solved(letters) => Finding::Shorter(letters),
-        Answer::Spent => Finding::Refused(Fault::K1),
+        SearchAnswer::Refuted(_) => Finding::Bound,
+        SearchAnswer::Solved(letters) => Finding::Shorter(letters),
+        SearchAnswer::Spent => Finding::Refused(Fault::K1),
     }
 }
 
 /// What is found where a part of a bound is claimed and the search of the part answers this.
-fn found_part(answer: Answer) -> Finding
+fn found_part(answer: SearchAnswer) -> Finding
     ensures { (guide : ShownGuide) (budget : ℕ) (b : List ℕ) (r : ℕ) (p : ShownPart)
         → IsAnswerOfPart guide p b r budget answer → IsPartFor guide budget b r p result }
 {
     match answer {
-        Answer::Refuted(_) => Finding::Part,
-        Answer::Solved(letters) => Finding::Shorter(letters),
-        Answer::Spent => Finding::Refused(Fault::K1),
+        SearchAnswer::Refuted(_) => Finding::Part,
+        SearchAnswer::Solved(letters) => Finding::Shorter(letters),
+        SearchAnswer::Spent => Finding::Refused(Fault::K1),
     }
 }
 
@@ -219,7 +219,7 @@ fn refute_part_together<R: Threads + Sync, G: Gate + Sync>(
     part: &PartBound,
     budget: u64,
     workers: &Workers<'_, R, G>,
-) -> Answer
+) -> SearchAnswer
     requires { side_of board.now ≡ guide.now.bundle.side }
     ensures { IsAnswerOfPart guide.now part.now.part board.now part.now.bound budget result }
 {
@@ -236,7 +236,7 @@ fn refute_together<R: Threads + Sync, G: Gate + Sync>(
     bound: u8,
     budget: u64,
     workers: &Workers<'_, R, G>,
-) -> Answer
+) -> SearchAnswer
     requires { side_of board.now ≡ guide.now.bundle.side }
     ensures { IsAnswer guide.now board.now bound budget result }
 {

@@ -60,6 +60,7 @@ fn read_wanted<C: Command, I: Io>(
         IfOk result (λ inputs. length inputs.items ≡ length wanted) }
     ensures ends { IfErr result (Ends (C.plan command.now) (I.world io.old) (I.world io.new)) }
 {
+    // Only the contract speaks of it.
     let _command = command;
     let Ok(room) = Vec::with_capacity(alloc, wanted.len()) else {
         return Err(say_no_memory(io));

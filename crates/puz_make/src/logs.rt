@@ -8,7 +8,7 @@ use crate::keys::Tiles;
 use crate::lemmas::Lemmas;
 use crate::limits::Limits;
 use crate::log_bytes::LogBytes;
-use crate::positions::Position;
+use crate::positions::SummedBoard;
 use crate::refuting::Refuter;
 use crate::repeats::find_repeats;
 use crate::trees::{Refutation, unmark};
@@ -25,7 +25,7 @@ const BYTES_OF_LEMMA: usize = 128;
 /// or there isn't the memory to write it, it has one lemma.
 pub(crate) fn log_of(
     alloc: Global,
-    position: Position<'_>,
+    position: SummedBoard<'_>,
     mut refutation: Refutation,
     limits: &Limits,
 ) -> Result<Vec<u8>, MakeFault>
@@ -43,7 +43,7 @@ pub(crate) fn log_of(
 /// The log of a refutation in at most so many lemmas. The tree is marked afterwards.
 fn log_of_many(
     alloc: Global,
-    position: Position<'_>,
+    position: SummedBoard<'_>,
     refutation: &mut Refutation,
     most: u32,
 ) -> Result<Vec<u8>, MakeFault> {

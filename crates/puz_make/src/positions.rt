@@ -8,7 +8,7 @@ use crate::children::{Children, Entries};
 use crate::leaves::Leaf;
 use crate::places::Moved;
 use crate::set_indices::SetIndex;
-use crate::sums::{Moves, Sums};
+use crate::sums::{EntrySums, Moves};
 use crate::ways::{ListNumber, Way, Ways};
 use puz_board::{Board, MOVES, Side, step};
 use set_sum::Bundle;
@@ -20,7 +20,7 @@ pub(crate) const NOWHERE: u8 = u8::MAX;
 
 /// A board, and what the sets of a bundle say of it.
 #[derive(Drop)]
-pub(crate) struct Position<'a> {
+pub(crate) struct SummedBoard<'a> {
     /// The tile in each cell.
     tiles: [Tile; CELLS],
     /// How many cells there are.
@@ -32,25 +32,25 @@ pub(crate) struct Position<'a> {
     /// The moves from each cell.
     ways: Ways,
     /// What the sets say.
-    pub(crate) sums: Sums<'a>,
+    pub(crate) sums: EntrySums<'a>,
 }
 
-impl<'a> Position<'a> {
+impl<'a> SummedBoard<'a> {
     /// A board of the bundle's side.
     pub(crate) fn new(
         alloc: Global,
         bundle: &'a Bundle<'_>,
         board: &Board,
-    ) -> Result<Position<'a>, AllocError>
+    ) -> Result<SummedBoard<'a>, AllocError>
         requires { side_of board.now ≡ bundle.now.side }
     {
-        Ok(Position {
+        Ok(SummedBoard {
             tiles: tiles_on(board),
             cells: board.side().cells(),
             blank: Cell::of_blank(board),
             parity: u16::from(board.blank_parity()),
             ways: Ways::new(alloc, board.side())?,
-            sums: Sums::new(alloc, bundle, board)?,
+            sums: EntrySums::new(alloc, bundle, board)?,
         })
     }
 

@@ -4,7 +4,7 @@ use crate::cells::Cell;
 use crate::children::Entries;
 use crate::keys::Tiles;
 use crate::lemmas::Lemmas;
-use crate::positions::Position;
+use crate::positions::SummedBoard;
 use crate::trees::Branch;
 use log_file::tree_bytes::{BRANCH, CITATION};
 use puz_board::Board;
@@ -24,7 +24,7 @@ struct Passed {
 /// A board that follows a walk, and trees that refute boards beside it.
 #[derive(Drop)]
 pub(crate) struct Refuter<'a> {
-    position: Position<'a>,
+    position: SummedBoard<'a>,
     tiles: Tiles,
     /// The moves from the root to the board.
     path: Vec<Passed>,
@@ -36,7 +36,7 @@ pub(crate) struct Refuter<'a> {
 
 impl<'a> Refuter<'a> {
     /// One that stands on the root's board, where the position is.
-    pub(crate) fn new(alloc: Global, position: Position<'a>, board: &Board) -> Refuter<'a> {
+    pub(crate) fn new(alloc: Global, position: SummedBoard<'a>, board: &Board) -> Refuter<'a> {
         Refuter {
             position,
             tiles: Tiles::new(board),

@@ -4,7 +4,7 @@
 //! comes again: a citation can stand for it, if the first is a lemma.
 
 use crate::board_table::BoardTable;
-use crate::trees::{Refutation, Step, Walk, most_steps};
+use crate::trees::{Refutation, TreeStep, TreeWalk, most_steps};
 use log_file::tree_bytes::CITATION_LEN;
 use std::alloc::{AllocError, Global};
 
@@ -60,20 +60,20 @@ pub(crate) fn find_repeats(
 
 /// Marks the long branches of a tree, but the root. Answers how many there are.
 fn mark_long(alloc: Global, refutation: &mut Refutation) -> Result<usize, AllocError> {
-    let mut walk = Walk::new(alloc, &refutation.board)?;
+    let mut walk = TreeWalk::new(alloc, &refutation.board)?;
     let tree = refutation.tree.as_mut_slice();
     let least = LEAST_LONG.max(tree.len() >> MOST_LONG_LOG);
     let mut count = 0usize;
     for _ in 0..most_steps(tree) {
         match walk.next(tree)? {
-            Step::Done => {
+            TreeStep::Done => {
                 if walk.is_inside() && walk.passed() >= least {
                     walk.mark_long(tree);
                     count = count.saturating_add(1);
                 }
                 walk.leave();
             }
-            Step::End => break,
+            TreeStep::End => break,
             _ => {}
         }
     }
@@ -86,19 +86,19 @@ fn count_repeats(
     refutation: &mut Refutation,
     mut counter: Counter,
 ) -> Result<Repeats, AllocError> {
-    let mut walk = Walk::new(alloc, &refutation.board)?;
+    let mut walk = TreeWalk::new(alloc, &refutation.board)?;
     let tree = refutation.tree.as_mut_slice();
     for _ in 0..most_steps(tree) {
         match walk.next(tree)? {
-            Step::Leaf(_) => counter.add(1),
-            Step::Branch | Step::First(_) => counter.open(None)?,
-            Step::Long => counter.enter_long(&mut walk, tree)?,
-            Step::Done => {
+            TreeStep::Leaf(_) => counter.add(1),
+            TreeStep::Branch | TreeStep::First(_) => counter.open(None)?,
+            TreeStep::Long => counter.enter_long(&mut walk, tree)?,
+            TreeStep::Done => {
                 counter.close(&walk);
                 walk.leave();
             }
-            Step::End => break,
-            Step::Edge | Step::Reverse => {}
+            TreeStep::End => break,
+            TreeStep::Edge | TreeStep::Reverse => {}
         }
     }
     Ok(Repeats {
@@ -151,7 +151,7 @@ impl Counter {
     }
 
     /// Enters the long branch that the walk is in, or passes it by where it comes again.
-    fn enter_long(&mut self, walk: &mut Walk, tree: &mut [u8]) -> Result<(), AllocError> {
+    fn enter_long(&mut self, walk: &mut TreeWalk, tree: &mut [u8]) -> Result<(), AllocError> {
         let remaining = walk.remaining(self.bound);
         match self.boards.number_of(walk.tiles.key, remaining) {
             Some(number) => {
@@ -187,7 +187,7 @@ impl Counter {
     }
 
     /// Leaves the branch that the walk is at the end of.
-    fn close(&mut self, walk: &Walk) {
+    fn close(&mut self, walk: &TreeWalk) {
         let Some(counted) = self.open.pop() else {
             return;
         };
@@ -199,7 +199,7 @@ impl Counter {
     }
 
     /// Ends the first branch of a board, whose size is known.
-    fn end_first(&mut self, number: u32, walk: &Walk) {
+    fn end_first(&mut self, number: u32, walk: &TreeWalk) {
         if let Some(first) = self.firsts.get_mut(number as usize) {
             first.whole = short(walk.passed());
             first.size = short(self.size);

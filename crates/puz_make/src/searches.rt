@@ -12,7 +12,7 @@ use crate::children::Children;
 use crate::leaves::Leaf;
 use crate::limits::Limits;
 use crate::logs::log_of;
-use crate::positions::Position;
+use crate::positions::SummedBoard;
 use crate::set_indices::SetIndex;
 use crate::solvable::{has_too_great_a_sum, is_solvable};
 use crate::trees::Refutation;
@@ -128,7 +128,7 @@ fn search<G: Gate>(
     requires { side_of board.now ≡ bundle.now.side }
     ensures { IfErr result IsSearchStop }
 {
-    let position = Position::new(alloc, bundle, board)?;
+    let position = SummedBoard::new(alloc, bundle, board)?;
     let root = position.best_leaf();
     let mut bound = root.raised;
     let mut levels = vec![in alloc; Children::none(); LEVELS]?;
@@ -150,7 +150,7 @@ fn search<G: Gate>(
 /// What searches for a solution, with all that it keeps.
 #[derive(Drop)]
 struct Searcher<'a, 'g, G> {
-    position: Position<'a>,
+    position: SummedBoard<'a>,
     /// How many more boards may be expanded.
     budget: Budget<'g, G>,
     limits: Limits,
@@ -166,7 +166,7 @@ impl<'a, 'g, G: Gate> Searcher<'a, 'g, G> {
     /// One that may expand so many boards.
     fn new(
         alloc: Global,
-        position: Position<'a>,
+        position: SummedBoard<'a>,
         budget: Budget<'g, G>,
         limits: &Limits,
     ) -> Searcher<'a, 'g, G>

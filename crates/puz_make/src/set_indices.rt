@@ -22,6 +22,7 @@ impl SetIndex {
     pub(crate) fn of(bundle: &Bundle<'_>, number: u8) -> SetIndex
         requires { number < length bundle.now.sets }
     {
+        // Asked only for what its contract says.
         let _sets = bundle.sets();
         SetIndex { number }
     }

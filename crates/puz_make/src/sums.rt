@@ -28,21 +28,21 @@ struct SummedSet {
 
 /// The entries of a board for all members that sets name. Each member has one place, however many sets name it.
 #[derive(Drop)]
-pub(crate) struct Sums<'a> {
+pub(crate) struct EntrySums<'a> {
     /// Where the tiles of each member's table are, on the board or on the transposed one.
     places: Vec<Place<'a>>,
     sets: Vec<SummedSet>,
     slots: Slots,
 }
 
-impl<'a> Sums<'a> {
+impl<'a> EntrySums<'a> {
     /// What the sets of a bundle say of a board of its side.
     pub(crate) fn new(
         alloc: Global,
         bundle: &'a Bundle<'_>,
         board: &Board,
-    ) -> Result<Sums<'a>, AllocError> {
-        let mut sums = Sums {
+    ) -> Result<EntrySums<'a>, AllocError> {
+        let mut sums = EntrySums {
             places: Vec::new(alloc),
             sets: Vec::new(alloc),
             slots: Slots::new(alloc, board.side())?,

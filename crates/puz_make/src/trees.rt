@@ -41,7 +41,7 @@ pub(crate) struct Branch {
 
 /// What a walk comes to.
 #[derive(Clone, Copy)]
-pub(crate) enum Step {
+pub(crate) enum TreeStep {
     /// A move that leaves the board.
     Edge,
     /// The reverse of the arriving move, which has no node.
@@ -62,7 +62,7 @@ pub(crate) enum Step {
 
 /// A walk over a tree whose first byte is a branch.
 #[derive(Drop)]
-pub(crate) struct Walk {
+pub(crate) struct TreeWalk {
     /// Where the moves lead from each cell, in their order.
     steps: [[u8; 4]; CELLS],
     /// The board of the branch that it is in.
@@ -75,9 +75,9 @@ pub(crate) struct Walk {
     firsts: usize,
 }
 
-impl Walk {
+impl TreeWalk {
     /// A walk that is in the root, which has this board.
-    pub(crate) fn new(alloc: Global, board: &Board) -> Result<Walk, AllocError> {
+    pub(crate) fn new(alloc: Global, board: &Board) -> Result<TreeWalk, AllocError> {
         let tiles = Tiles::new(board);
         let mut branches = Vec::new(alloc);
         branches.push(Branch {
@@ -86,7 +86,7 @@ impl Walk {
             came_from: None,
             tried: 0,
         })?;
-        Ok(Walk {
+        Ok(TreeWalk {
             steps: steps_of(board.side()),
             tiles,
             branches,
@@ -97,42 +97,42 @@ impl Walk {
 
     /// Goes on by one move.
     #[inline]
-    pub(crate) fn next(&mut self, tree: &[u8]) -> Result<Step, AllocError> {
+    pub(crate) fn next(&mut self, tree: &[u8]) -> Result<TreeStep, AllocError> {
         let Some(branch) = self.branches.last_mut() else {
-            return Ok(Step::End);
+            return Ok(TreeStep::End);
         };
         if branch.tried >= MOVES {
-            return Ok(Step::Done);
+            return Ok(TreeStep::Done);
         }
         let to = self.steps[branch.blank.place()][branch.tried];
         branch.tried += 1;
         let Some(to) = Cell::of(to) else {
-            return Ok(Step::Edge);
+            return Ok(TreeStep::Edge);
         };
         if branch.came_from == Some(to) {
-            return Ok(Step::Reverse);
+            return Ok(TreeStep::Reverse);
         }
         self.enter(tree, to)
     }
 
     /// Goes to the node to which the blank comes by a move to this cell.
     #[inline]
-    fn enter(&mut self, tree: &[u8], to: Cell) -> Result<Step, AllocError> {
+    fn enter(&mut self, tree: &[u8], to: Cell) -> Result<TreeStep, AllocError> {
         let at = self.at;
         if at >= tree.len() {
-            return Ok(Step::End);
+            return Ok(TreeStep::End);
         }
         let node = tree[at];
         self.at = at + 1;
         let step = match node {
-            BRANCH => Step::Branch,
-            LONG => Step::Long,
+            BRANCH => TreeStep::Branch,
+            LONG => TreeStep::Long,
             FIRST => {
                 let number = self.firsts;
                 self.firsts = number.saturating_add(1);
-                Step::First(number)
+                TreeStep::First(number)
             }
-            leaf => return Ok(Step::Leaf(leaf)),
+            leaf => return Ok(TreeStep::Leaf(leaf)),
         };
         self.branches.push(Branch {
             at,
@@ -160,8 +160,8 @@ impl Walk {
         let depth = self.branches.len();
         for _ in 0..most_steps(tree) {
             match self.next(tree)? {
-                Step::Done => self.leave(),
-                Step::End => break,
+                TreeStep::Done => self.leave(),
+                TreeStep::End => break,
                 _ => {}
             }
             if self.branches.len() < depth {

@@ -9,7 +9,7 @@ use crate::lemmas::Lemmas;
 use crate::log_bytes::LogBytes;
 use crate::refuting::Refuter;
 use crate::repeats::{First, Repeats};
-use crate::trees::{Refutation, Step, Walk, most_steps};
+use crate::trees::{Refutation, TreeStep, TreeWalk, most_steps};
 use log_file::tree_bytes::{BRANCH, CITATION};
 use std::alloc::{AllocError, Global};
 use std::ops::Range;
@@ -43,7 +43,7 @@ struct Open {
 /// A tree that becomes a log.
 #[derive(Drop)]
 pub(crate) struct Writer<'a> {
-    walk: Walk,
+    walk: TreeWalk,
     refuter: Refuter<'a>,
     lemmas: Lemmas,
     firsts: Vec<First>,
@@ -66,7 +66,7 @@ impl<'a> Writer<'a> {
         repeats: Repeats,
     ) -> Result<Writer<'a>, MakeFault> {
         let mut writer = Writer {
-            walk: Walk::new(alloc, &refutation.board)?,
+            walk: TreeWalk::new(alloc, &refutation.board)?,
             refuter,
             lemmas,
             cuts: Cuts::new(repeats.size),
@@ -83,17 +83,17 @@ impl<'a> Writer<'a> {
     pub(crate) fn write(mut self, tree: &[u8]) -> Result<Vec<u8>, MakeFault> {
         for _ in 0..most_steps(tree) {
             match self.walk.next(tree)? {
-                Step::Edge => {}
-                Step::Reverse => self.note_reverse(),
-                Step::Leaf(leaf) => self.put(leaf)?,
-                Step::Branch => self.open_inline()?,
-                Step::Long => self.enter_long(tree)?,
-                Step::First(number) => self.enter_first(number)?,
-                Step::Done => {
+                TreeStep::Edge => {}
+                TreeStep::Reverse => self.note_reverse(),
+                TreeStep::Leaf(leaf) => self.put(leaf)?,
+                TreeStep::Branch => self.open_inline()?,
+                TreeStep::Long => self.enter_long(tree)?,
+                TreeStep::First(number) => self.enter_first(number)?,
+                TreeStep::Done => {
                     self.close()?;
                     self.walk.leave();
                 }
-                Step::End => break,
+                TreeStep::End => break,
             }
         }
         self.finish()

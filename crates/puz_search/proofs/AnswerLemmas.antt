@@ -9,8 +9,8 @@ use Rattle.puz_search.specs.Nodes.{IsFirst, IsLed, IsPartAnswer, node_fails, sea
 use Rattle.move_strings.specs.BoundParts.{ShownPart, letters_of}
 use Rattle.puz_search.specs.Prefixes.{IsRead, part_of, prefix_fails}
 use Rattle.puz_search.specs.Searches.{Fails, PartFails, SearchOfPartFails, most_boards}
-use Rattle.puz_search.specs.declared.answers.Answer.{Answer}
-use Rattle.puz_search.specs.declared.answers.Answer.TheVariants.{Refuted, Solved, Spent}
+use Rattle.puz_search.specs.declared.answers.SearchAnswer.{SearchAnswer}
+use Rattle.puz_search.specs.declared.answers.SearchAnswer.TheVariants.{Refuted, Solved, Spent}
 use Rattle.puz_search.specs.declared.nodes.Node.{Node}
 use Rattle.puz_search.specs.declared.prefixes.Prefix.{Prefix}
 use Rattle.puz_search.specs.declared.searches.Search.{Search}
@@ -23,11 +23,11 @@ is_board : (s : Search) → IsBoard s.board.now
 is_board s = subst (λ n. IsBoardOf n s.board.now) (sym (side_of-board s.guide.now.bundle.side s.board.now s.one_side)) s.one_side
 
 -- the answer of the whole search
-abbrev pub IsWhole : Search → ℕ → Answer → Type 0
+abbrev pub IsWhole : Search → ℕ → SearchAnswer → Type 0
 IsWhole s budget answer = IsPartAnswer (search_fails s) (most_boards s.bound) (solves_first s) budget answer
 
 -- what the search below the first node answers is that
-first_whole : (s : Search) (node : Node) → IsFirst s node → IsLed s node → (budget : ℕ) (answer : Answer)
+first_whole : (s : Search) (node : Node) → IsFirst s node → IsLed s node → (budget : ℕ) (answer : SearchAnswer)
     → IsPartAnswer (node_fails s node) (most_boards node.bound) (solves_below node) budget answer
     → IsWhole s budget answer
 first_whole s node first led budget answer part =
@@ -38,7 +38,7 @@ first_whole s node first led budget answer part =
     (subst (λ b. Says s.prefix b node.state node.bound) first.board (subst (λ x. Says x node.board node.state node.bound) first.prefix is)))
 
 -- is refuted where the search fails within the budget
-whole_within : (s : Search) (budget boards : ℕ) → search_fails s boards → boards ≤ budget → (answer : Answer) → IsWhole s budget answer
+whole_within : (s : Search) (budget boards : ℕ) → search_fails s boards → boards ≤ budget → (answer : SearchAnswer) → IsWhole s budget answer
     → answer ≡ Refuted boards
 whole_within s budget boards fails low (Refuted other) part =
     ap Refuted (part_once s.guide.now (part_of s.prefix) s.prefix.ahead s.prefix.rank s.bound s.board.now 0 other boards part.0 fails)
@@ -52,14 +52,14 @@ module _ (s : Search) (is : IsGuide s.guide.now) (read : IsRead s.prefix) (budge
   all_same n = part_here s.guide.now (part_of s.prefix) s.board.now 0 s.prefix.ahead s.prefix.rank s.bound read.0 (λ e. read.1) n
 
   -- says what it is to say
-  pub all_answer : (answer : Answer) → IsWhole s budget answer → IsAnswer s.guide.now s.board.now s.bound budget answer
+  pub all_answer : (answer : SearchAnswer) → IsWhole s budget answer → IsAnswer s.guide.now s.board.now s.bound budget answer
   all_answer (Refuted boards) part =
       let fails = (all_same boards).0 part.0 in (fails_bounds s.guide.now is s.bound s.board.now boards s.one_side fails, fails, part.1)
   all_answer (Solved letters) part = trail_solves s.board.now s.bound letters.items (is_board s) s.small part.0
   all_answer Spent part = λ boards fails. part.0 boards ((all_same boards).1 fails)
 
   -- where the search of all moves fails within the budget, the whole search is refuted with its count of boards
-  pub all_within : (boards : ℕ) → Fails s.guide.now s.bound s.board.now 0 boards → boards ≤ budget → (answer : Answer) → IsWhole s budget answer
+  pub all_within : (boards : ℕ) → Fails s.guide.now s.bound s.board.now 0 boards → boards ≤ budget → (answer : SearchAnswer) → IsWhole s budget answer
       → answer ≡ Refuted boards
   all_within boards fails low answer part = whole_within s budget boards ((all_same boards).1 fails) low answer part
 
@@ -78,28 +78,28 @@ module _ (s : Search) (is : IsGuide s.guide.now) (p : ShownPart) (of_part : part
   )
 
   -- the answer of a whole search among a part's moves is one of the part
-  pub part_answer : (answer : Answer) → IsWhole s budget answer → IsAnswerOfPart s.guide.now p s.board.now s.bound budget answer
+  pub part_answer : (answer : SearchAnswer) → IsWhole s budget answer → IsAnswerOfPart s.guide.now p s.board.now s.bound budget answer
   part_answer (Refuted boards) part =
       let fails = (part_same boards).0 part.0 in (part_bounds s.guide.now is p s.bound s.board.now boards s.one_side fails, fails, part.1)
   part_answer (Solved letters) part = trail_solves s.board.now s.bound letters.items (is_board s) s.small part.0
   part_answer Spent part = λ boards fails. part.0 boards ((part_same boards).1 fails)
 
   -- where the search of the part fails within the budget, the whole search is refuted with its count of boards
-  pub part_within : (boards : ℕ) → SearchOfPartFails s.guide.now p s.bound s.board.now boards → boards ≤ budget → (answer : Answer) → IsWhole s budget answer
-      → answer ≡ Refuted boards
+  pub part_within : (boards : ℕ) → SearchOfPartFails s.guide.now p s.bound s.board.now boards → boards ≤ budget → (answer : SearchAnswer)
+      → IsWhole s budget answer → answer ≡ Refuted boards
   part_within boards fails low answer part = whole_within s budget boards ((part_same boards).1 fails) low answer part
 
 -- ---- of either
 
 -- isn't spent where the budget is large enough
-pub whole_enough : (s : Search) (budget : ℕ) → most_boards s.bound ≤ budget → (answer : Answer) → IsWhole s budget answer → answer ≡ Spent → ⊥
+pub whole_enough : (s : Search) (budget : ℕ) → most_boards s.bound ≤ budget → (answer : SearchAnswer) → IsWhole s budget answer → answer ≡ Spent → ⊥
 whole_enough s budget low (Refuted boards) part e = cc
 whole_enough s budget low (Solved letters) part e = cc
 whole_enough s budget low Spent part e = let more : budget < most_boards s.bound = part.1 in omega arith
 
 -- ---- what the search below the first node answers
 
-module _ (s : Search) (is : IsGuide s.guide.now) (node : Node) (first : IsFirst s node) (led : IsLed s node) (budget : ℕ) (answer : Answer)
+module _ (s : Search) (is : IsGuide s.guide.now) (node : Node) (first : IsFirst s node) (led : IsLed s node) (budget : ℕ) (answer : SearchAnswer)
     (below : IsPartAnswer (node_fails s node) (most_boards node.bound) (solves_below node) budget answer) where
   -- of all moves
   module _ (read : IsRead s.prefix) where
@@ -122,6 +122,6 @@ module _ (s : Search) (is : IsGuide s.guide.now) (node : Node) (first : IsFirst 
     part_first_within boards fails low = part_within s is p of_part ahead rank budget boards fails low answer (first_whole s node first led budget answer below)
 
 -- what holds of each answer holds of an `Ok`
-pub if_ok : (P Q : Answer → Type 0) → ((answer : Answer) → P answer → Q answer) → (r : Result Answer AllocError) → IfOk r P → IfOk r Q
+pub if_ok : (P Q : SearchAnswer → Type 0) → ((answer : SearchAnswer) → P answer → Q answer) → (r : Result SearchAnswer AllocError) → IfOk r P → IfOk r Q
 if_ok P Q then (Ok answer) is = then answer is
 if_ok P Q then (Err fault) is = tt

@@ -9,7 +9,7 @@ use Rattle.puz_search.specs.Frontiers.{Adds, IsFrontier, IsMore, all_fail, most_
 use Rattle.puz_search.specs.Nodes.{IsFirst, IsLed, IsPartAnswer, node_fails, search_fails, solves_first}
 use Rattle.puz_search.specs.Prefixes.{prefix_fails}
 use Rattle.puz_search.specs.Searches.{InTurn, most_boards}
-use Rattle.puz_search.specs.declared.answers.Answer.TheVariants.{Spent}
+use Rattle.puz_search.specs.declared.answers.SearchAnswer.TheVariants.{Spent}
 use Rattle.puz_search.specs.declared.frontiers.Frontier.{Frontier}
 use Rattle.puz_search.specs.declared.nodes.Node.{Node}
 use Rattle.puz_search.specs.declared.prefixes.Prefix.{Prefix}

@@ -14,8 +14,8 @@ use Rattle.puz_search.specs.Outcomes.{IsTrail, bound_at, guide_at, prefix_fails_
 use Rattle.move_strings.specs.Automata.{left_out, next_at}
 use Rattle.puz_walk.specs.Walks.{IsClosed, IsCutOff, ShownWalk}
 use Rattle.puz_search.specs.Searches.{InTurn, PartFails, leaves_out, most_boards}
-use Rattle.puz_search.specs.declared.answers.Answer.{Answer}
-use Rattle.puz_search.specs.declared.answers.Answer.TheVariants.{Refuted, Solved, Spent}
+use Rattle.puz_search.specs.declared.answers.SearchAnswer.{SearchAnswer}
+use Rattle.puz_search.specs.declared.answers.SearchAnswer.TheVariants.{Refuted, Solved, Spent}
 use Rattle.puz_search.specs.declared.nodes.Node.{Node}
 use Rattle.puz_search.specs.declared.searches.Search.{Search}
 use Rattle.puz_search.specs.declared.walks.Reached.{Reached}
@@ -33,7 +33,7 @@ led_after s node move next letter text led some leads names trail =
     (led.leads (letter ∷ text) (trail_move node.board next node.bound letter text move some leads names trail))
 
 -- what a search below a node answers, said of the first board
-pub node_answer : (s : Search) (node : Node) → IsLed s node → (Part : ℕ → Type 0) (most budget : ℕ) (answer : Answer)
+pub node_answer : (s : Search) (node : Node) → IsLed s node → (Part : ℕ → Type 0) (most budget : ℕ) (answer : SearchAnswer)
     → IsPartAnswer Part most (solves_below node) budget answer
     → IsPartAnswer Part most (solves_first s) budget answer
 node_answer s node led Part most budget (Refuted boards) is = is

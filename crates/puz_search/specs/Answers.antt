@@ -6,8 +6,8 @@ use Rattle.move_strings.specs.BoundParts.{IsPartBounded, ShownPart}
 use Rattle.set_sum.specs.Bounds.{IsBounded}
 use Rattle.puz_search.specs.Guides.{ShownGuide}
 use Rattle.puz_search.specs.Searches.{Fails, FailsInTurn, SearchOfPartFails}
-use Rattle.puz_search.specs.declared.answers.Answer.{Answer}
-use Rattle.puz_search.specs.declared.answers.Answer.TheVariants as answer
+use Rattle.puz_search.specs.declared.answers.SearchAnswer.{SearchAnswer}
+use Rattle.puz_search.specs.declared.answers.SearchAnswer.TheVariants as answer
 use Rattle.puz_search.specs.declared.deepening.Deepened.{Deepened}
 use Rattle.puz_search.specs.declared.deepening.Deepened.TheVariants as deepened
 
@@ -19,14 +19,14 @@ IsShorter b r letters = (moves : ℕ) × (moves < r) × Solves b letters moves
 
 -- No solution of the board has fewer than r moves, and the search for one fails with so many boards, within the budget; or these
 -- letters are one that has; or the search expands more boards than the budget wherever it fails.
-abbrev pub IsAnswer : ShownGuide → List ℕ → ℕ → ℕ → Answer → Type 0
+abbrev pub IsAnswer : ShownGuide → List ℕ → ℕ → ℕ → SearchAnswer → Type 0
 IsAnswer g b r budget (answer.Refuted boards) = IsBounded b r × Fails g r b 0 boards × (boards ≤ budget)
 IsAnswer g b r budget (answer.Solved letters) = IsShorter b r letters.items
 IsAnswer g b r budget answer.Spent = (boards : ℕ) → Fails g r b 0 boards → budget < boards
 
 -- The same of a part of the bound: where it is refuted, the least solution of fewer than r moves isn't of the part. A solution
 -- may be of any part.
-abbrev pub IsAnswerOfPart : ShownGuide → ShownPart → List ℕ → ℕ → ℕ → Answer → Type 0
+abbrev pub IsAnswerOfPart : ShownGuide → ShownPart → List ℕ → ℕ → ℕ → SearchAnswer → Type 0
 IsAnswerOfPart g p b r budget (answer.Refuted boards) = IsPartBounded p r b × SearchOfPartFails g p r b boards × (boards ≤ budget)
 IsAnswerOfPart g p b r budget (answer.Solved letters) = IsShorter b r letters.items
 IsAnswerOfPart g p b r budget answer.Spent = (boards : ℕ) → SearchOfPartFails g p r b boards → budget < boards

@@ -5,8 +5,8 @@ use Rattle.move_strings.specs.Automata.{IsState}
 use Rattle.puz_walk.specs.Walks.{ShownWalk}
 use Rattle.puz_search.specs.Outcomes.{IsTrail}
 use Rattle.puz_search.specs.Prefixes.{prefix_fails}
-use Rattle.puz_search.specs.declared.answers.Answer.{Answer}
-use Rattle.puz_search.specs.declared.answers.Answer.TheVariants.{Refuted, Solved, Spent}
+use Rattle.puz_search.specs.declared.answers.SearchAnswer.{SearchAnswer}
+use Rattle.puz_search.specs.declared.answers.SearchAnswer.TheVariants.{Refuted, Solved, Spent}
 use Rattle.puz_search.specs.declared.nodes.Node.{Node}
 use Rattle.puz_search.specs.declared.searches.Search.{Search}
 
@@ -50,7 +50,7 @@ solves_first s letters = IsTrail s.board.now s.bound letters
 
 -- what a part of a search answers within a budget: these say with how many boards it fails, at most so many, and what its
 -- solutions are; where it finds one it doesn't fail
-abbrev pub IsPartAnswer : (ℕ → Type 0) → ℕ → (List ℕ → Type 0) → ℕ → Answer → Type 0
+abbrev pub IsPartAnswer : (ℕ → Type 0) → ℕ → (List ℕ → Type 0) → ℕ → SearchAnswer → Type 0
 IsPartAnswer Part most IsSolved budget (Refuted boards) = Part boards × (boards ≤ budget)
 IsPartAnswer Part most IsSolved budget (Solved letters) = IsSolved letters.items × ((boards : ℕ) → ¬ Part boards)
 IsPartAnswer Part most IsSolved budget Spent = ((boards : ℕ) → Part boards → budget < boards) × (budget < most)

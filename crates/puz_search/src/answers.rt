@@ -9,7 +9,7 @@ pub type Letters = ArrayVec<u8, 255>;
 
 /// What a search for a solution of fewer moves than a bound answers.
 #[derive(Drop)]
-pub enum Answer {
+pub enum SearchAnswer {
     /// There is none, and the search expanded so many boards.
     Refuted(u64),
     /// The moves of one.

@@ -4,7 +4,7 @@ ghost use Rattle.std.specs.Prelude.{◌≡◌, IfOk};
 ghost use Rattle.puz_board.specs.Boards.{side_of};
 ghost use Rattle.puz_search.specs.Answers.{IsDeepened};
 
-use crate::answers::{Answer, Letters};
+use crate::answers::{Letters, SearchAnswer};
 use crate::guides::Guide;
 use crate::refuting::refute;
 use crate::sharing::refute_by;
@@ -35,17 +35,18 @@ pub fn shortest(guide: &Guide<'_>, board: &Board, budget: u64) -> Deepened
     requires { side_of board.now ≡ guide.now.bundle.side }
     ensures { IsDeepened guide.now board.now budget result }
 {
+    // Asked only for what its contract says.
     let _side = board.side();
     let mut bound = board.blank_parity();
     let mut left = budget;
     while bound < LARGEST_BOUND {
         match refute(guide, board, bound + 1, left) {
-            Answer::Refuted(boards) => {
+            SearchAnswer::Refuted(boards) => {
                 left -= boards;
                 bound += 2;
             }
-            Answer::Solved(letters) => return Deepened::Shortest(letters),
-            Answer::Spent => return Deepened::Spent(bound),
+            SearchAnswer::Solved(letters) => return Deepened::Shortest(letters),
+            SearchAnswer::Spent => return Deepened::Spent(bound),
         }
     }
     Deepened::Beyond
@@ -67,12 +68,12 @@ pub fn shortest_by<R: Threads + Sync, G: Gate + Sync>(
     while bound < LARGEST_BOUND {
         let answer = refute_by(guide, board, bound + 1, left, workers)?;
         match answer {
-            Answer::Refuted(boards) => {
+            SearchAnswer::Refuted(boards) => {
                 left -= boards;
                 bound += 2;
             }
-            Answer::Solved(letters) => return Ok(Deepened::Shortest(letters)),
-            Answer::Spent => return Ok(Deepened::Spent(bound)),
+            SearchAnswer::Solved(letters) => return Ok(Deepened::Shortest(letters)),
+            SearchAnswer::Spent => return Ok(Deepened::Spent(bound)),
         }
     }
     Ok(Deepened::Beyond)

@@ -52,6 +52,7 @@ impl<'a> Guide<'a> {
         ensures value { result ≡ record { bundle = bundle.now; steps = automaton.now.steps } }
         ensures guide { IsGuide result }
     {
+        // Asked only for what its contract says.
         let _sides = (bundle.side(), automaton.side());
         Guide {
             sets: Sets::Sums(bundle),

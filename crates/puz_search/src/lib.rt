@@ -17,7 +17,7 @@ mod searches;
 mod sharing;
 mod walks;
 
-pub use answers::{Answer, Letters};
+pub use answers::{Letters, SearchAnswer};
 pub use deepening::{Deepened, shortest, shortest_by};
 pub use guides::Guide;
 pub use refuting::{PartBound, refute, refute_part};

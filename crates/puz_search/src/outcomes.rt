@@ -6,7 +6,7 @@ ghost use Rattle.puz_search.specs.Nodes.{IsLed, IsPartAnswer, IsPlaced, node_fai
 ghost use Rattle.puz_search.specs.Frontiers.{AreOutcomesOf, IsOutcome, all_fail, most_of};
 ghost use Rattle.puz_search.specs.Searches.{most_boards};
 
-use crate::answers::Answer;
+use crate::answers::SearchAnswer;
 use crate::efforts::Effort;
 use crate::nodes::Node;
 use crate::refuting::refute_node;
@@ -69,18 +69,23 @@ impl<'a, G: Gate> Task for SearchNodes<'a, G> {
         self.expanded.fetch_add(expanded, Ordering::SeqCst);
         self.gate.expanded(expanded);
         match answer {
-            Answer::Refuted(boards) => Outcome::Refuted(boards),
-            Answer::Solved(_) => {
+            SearchAnswer::Refuted(boards) => Outcome::Refuted(boards),
+            SearchAnswer::Solved(_) => {
                 self.solved.store(job, Ordering::SeqCst);
                 Outcome::Open
             }
-            Answer::Spent => Outcome::Spent(budget),
+            SearchAnswer::Spent => Outcome::Spent(budget),
         }
     }
 }
 
 /// What the searches below all nodes answer in turn, within a budget.
-pub(crate) fn settle(task: &Search<'_>, nodes: &[Node], outcomes: &[Outcome], budget: u64) -> Answer
+pub(crate) fn settle(
+    task: &Search<'_>,
+    nodes: &[Node],
+    outcomes: &[Outcome],
+    budget: u64,
+) -> SearchAnswer
     requires led { All (IsLed task.now) nodes.now }
     requires outcomes { AreOutcomesOf task.now nodes.now outcomes.now }
     ensures { IsPartAnswer (all_fail task.now nodes.now) (most_of nodes.now)
@@ -89,27 +94,27 @@ pub(crate) fn settle(task: &Search<'_>, nodes: &[Node], outcomes: &[Outcome], bu
     let mut left = budget;
     for at in 0..nodes.len() {
         match settle_node(task, &nodes[at], outcomes[at], left) {
-            Answer::Refuted(boards) => {
+            SearchAnswer::Refuted(boards) => {
                 left -= boards;
             }
-            Answer::Solved(letters) => return Answer::Solved(letters),
-            Answer::Spent => return Answer::Spent,
+            SearchAnswer::Solved(letters) => return SearchAnswer::Solved(letters),
+            SearchAnswer::Spent => return SearchAnswer::Spent,
         }
     }
-    Answer::Refuted(budget - left)
+    SearchAnswer::Refuted(budget - left)
 }
 
 /// What the search below a node answers within a budget, by the outcome of its job where that tells.
-fn settle_node(task: &Search<'_>, node: &Node, outcome: Outcome, budget: u64) -> Answer
+fn settle_node(task: &Search<'_>, node: &Node, outcome: Outcome, budget: u64) -> SearchAnswer
     requires led { IsLed task.now node.now }
     requires outcome { IsOutcome task.now node.now outcome }
     ensures { IsPartAnswer (node_fails task.now node.now) (most_boards node.now.bound)
         (solves_first task.now) budget result }
 {
     match outcome {
-        Outcome::Refuted(boards) if boards <= budget => Answer::Refuted(boards),
-        Outcome::Refuted(_) => Answer::Spent,
-        Outcome::Spent(had) if budget <= had => Answer::Spent,
+        Outcome::Refuted(boards) if boards <= budget => SearchAnswer::Refuted(boards),
+        Outcome::Refuted(_) => SearchAnswer::Spent,
+        Outcome::Spent(had) if budget <= had => SearchAnswer::Spent,
         Outcome::Spent(_) => refute_node(task, node, &mut Effort::within(budget)),
         Outcome::Open => refute_node(task, node, &mut Effort::within(budget)),
     }

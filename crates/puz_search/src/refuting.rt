@@ -6,9 +6,9 @@ ghost use Rattle.puz_search.specs.Answers.{IsAnswer, IsAnswerOfPart};
 ghost use Rattle.puz_search.specs.Nodes.{IsPartAnswer, IsPlaced, node_fails, solves_below, walk_to};
 ghost use Rattle.puz_search.specs.Openness.{IsWalkTo};
 ghost use Rattle.puz_search.specs.Searches.{Fails, SearchOfPartFails, most_boards};
-ghost use Rattle.puz_search.specs.declared.answers.Answer.TheVariants.{Refuted, Spent};
+ghost use Rattle.puz_search.specs.declared.answers.SearchAnswer.TheVariants.{Refuted, Spent};
 
-use crate::answers::{Answer, joined};
+use crate::answers::{SearchAnswer, joined};
 use crate::efforts::{Effort, Stop};
 use crate::guides::{Guide, Sets};
 use crate::nodes::Node;
@@ -50,7 +50,7 @@ impl PartBound {
 /// (Korf 1985). Moves that the guide's automaton leaves out aren't tried (Taylor and Korf 1993).
 ///
 /// A board is expanded where its moves are tried. At any time at most 255 boards are, one inside the other.
-pub fn refute(guide: &Guide<'_>, board: &Board, bound: u8, budget: u64) -> Answer
+pub fn refute(guide: &Guide<'_>, board: &Board, bound: u8, budget: u64) -> SearchAnswer
     requires { side_of board.now ≡ guide.now.bundle.side }
 
     // Refuted: no solution of the board has fewer moves, and the search fails with so many boards, within the budget. Solved:
@@ -79,7 +79,7 @@ pub fn refute(guide: &Guide<'_>, board: &Board, bound: u8, budget: u64) -> Answe
 /// that are too few to tell it.
 ///
 /// The boards above the last letter that tells a part are searched for each part, and count for each.
-pub fn refute_part(guide: &Guide<'_>, board: &Board, claim: &PartBound, budget: u64) -> Answer
+pub fn refute_part(guide: &Guide<'_>, board: &Board, claim: &PartBound, budget: u64) -> SearchAnswer
     requires { side_of board.now ≡ guide.now.bundle.side }
 
     // Refuted: the least solution of fewer moves, if there is one, isn't of the part, and the search of the part fails with so
@@ -107,7 +107,7 @@ pub fn refute_part(guide: &Guide<'_>, board: &Board, claim: &PartBound, budget: 
 }
 
 /// Searches below a node with what is left of an effort. The letters of a solution are those from the first board on.
-pub(crate) fn refute_node(task: &Search<'_>, node: &Node, effort: &mut Effort) -> Answer
+pub(crate) fn refute_node(task: &Search<'_>, node: &Node, effort: &mut Effort) -> SearchAnswer
     requires placed { IsPlaced task.now node.now }
     requires none { effort.old.letters.items ≡ [] }
     ensures { IsPartAnswer (node_fails task.now node.now) (most_boards node.now.bound)
@@ -131,7 +131,7 @@ fn refute_by_walk<W: Walk>(
     node: &Node,
     walk: Option<W>,
     effort: &mut Effort,
-) -> Answer
+) -> SearchAnswer
     requires placed { IsPlaced task.now node.now }
     requires walk { IsWalkTo W.shown (walk_to task.now node.now) walk }
     requires none { effort.old.letters.items ≡ [] }
@@ -140,7 +140,7 @@ fn refute_by_walk<W: Walk>(
 {
     let budget = effort.left;
     let Some(walk) = walk else {
-        return Answer::Refuted(0);
+        return SearchAnswer::Refuted(0);
     };
     let mut reached = Reached {
         walk,
@@ -148,11 +148,11 @@ fn refute_by_walk<W: Walk>(
         state: node.state,
     };
     match search_part(&mut reached, &node.prefix, effort) {
-        Ok(()) => Answer::Refuted(budget - effort.left),
+        Ok(()) => SearchAnswer::Refuted(budget - effort.left),
         Err(Stop::Solved) => {
             effort.letters.reverse();
-            Answer::Solved(joined(node.letters.as_slice(), effort.letters.as_slice()))
+            SearchAnswer::Solved(joined(node.letters.as_slice(), effort.letters.as_slice()))
         }
-        Err(Stop::Spent) => Answer::Spent,
+        Err(Stop::Spent) => SearchAnswer::Spent,
     }
 }

@@ -5,9 +5,9 @@ ghost use Rattle.puz_board.specs.Boards.{side_of};
 ghost use Rattle.puz_search.specs.Answers.{IsAnswer, IsAnswerOfPart};
 ghost use Rattle.puz_search.specs.Nodes.{IsPartAnswer, search_fails, solves_first};
 ghost use Rattle.puz_search.specs.Searches.{Fails, SearchOfPartFails, most_boards};
-ghost use Rattle.puz_search.specs.declared.answers.Answer.TheVariants.{Refuted, Spent};
+ghost use Rattle.puz_search.specs.declared.answers.SearchAnswer.TheVariants.{Refuted, Spent};
 
-use crate::answers::Answer;
+use crate::answers::SearchAnswer;
 use crate::efforts::Effort;
 use crate::frontiers::frontier_of;
 use crate::guides::Guide;
@@ -37,7 +37,7 @@ pub fn refute_by<R: Threads + Sync, G: Gate + Sync>(
     bound: u8,
     budget: u64,
     workers: &Workers<'_, R, G>,
-) -> Result<Answer, AllocError>
+) -> Result<SearchAnswer, AllocError>
     requires { side_of board.now ≡ guide.now.bundle.side }
 
     // Refuted: no solution of the board has fewer moves, and the search fails with so many boards, within the budget. Solved:
@@ -70,7 +70,7 @@ pub fn refute_part_by<R: Threads + Sync, G: Gate + Sync>(
     claim: &PartBound,
     budget: u64,
     workers: &Workers<'_, R, G>,
-) -> Result<Answer, AllocError>
+) -> Result<SearchAnswer, AllocError>
     requires { side_of board.now ≡ guide.now.bundle.side }
 
     // Refuted: the least solution of fewer moves, if there is one, isn't of the part, and the search of the part fails with so
@@ -102,7 +102,7 @@ fn search_by<R: Threads + Sync, G: Gate + Sync>(
     task: &Search<'_>,
     budget: u64,
     workers: &Workers<'_, R, G>,
-) -> Result<Answer, AllocError>
+) -> Result<SearchAnswer, AllocError>
     ensures { IfOk result (IsPartAnswer (search_fails task.now) (most_boards task.now.bound)
         (solves_first task.now) budget) }
 {
@@ -111,10 +111,10 @@ fn search_by<R: Threads + Sync, G: Gate + Sync>(
     let answer = refute_node(task, &task.first(), &mut effort);
     workers.gate.expanded(few.saturating_sub(effort.left));
     match answer {
-        Answer::Refuted(boards) => Ok(Answer::Refuted(boards)),
-        Answer::Solved(letters) => Ok(Answer::Solved(letters)),
-        Answer::Spent if budget <= FEW_BOARDS => Ok(Answer::Spent),
-        Answer::Spent => search_frontier(task, budget, workers),
+        SearchAnswer::Refuted(boards) => Ok(SearchAnswer::Refuted(boards)),
+        SearchAnswer::Solved(letters) => Ok(SearchAnswer::Solved(letters)),
+        SearchAnswer::Spent if budget <= FEW_BOARDS => Ok(SearchAnswer::Spent),
+        SearchAnswer::Spent => search_frontier(task, budget, workers),
     }
 }
 
@@ -123,14 +123,14 @@ fn search_frontier<R: Threads + Sync, G: Gate + Sync>(
     task: &Search<'_>,
     budget: u64,
     workers: &Workers<'_, R, G>,
-) -> Result<Answer, AllocError>
+) -> Result<SearchAnswer, AllocError>
     ensures { IfOk result (IsPartAnswer (search_fails task.now) (most_boards task.now.bound)
         (solves_first task.now) budget) }
 {
     let frontier = frontier_of(task, workers.alloc)?;
     workers.gate.expanded(frontier.expanded);
     let Some(left) = budget.checked_sub(frontier.expanded) else {
-        return Ok(Answer::Spent);
+        return Ok(SearchAnswer::Spent);
     };
     let nodes = SearchNodes {
         task,
@@ -142,8 +142,8 @@ fn search_frontier<R: Threads + Sync, G: Gate + Sync>(
     };
     let outcomes = share(&nodes, workers)?;
     match settle(task, frontier.nodes.as_slice(), outcomes.as_slice(), left) {
-        Answer::Refuted(boards) => Ok(Answer::Refuted(frontier.expanded + boards)),
-        Answer::Solved(letters) => Ok(Answer::Solved(letters)),
-        Answer::Spent => Ok(Answer::Spent),
+        SearchAnswer::Refuted(boards) => Ok(SearchAnswer::Refuted(frontier.expanded + boards)),
+        SearchAnswer::Solved(letters) => Ok(SearchAnswer::Solved(letters)),
+        SearchAnswer::Spent => Ok(SearchAnswer::Spent),
     }
 }

@@ -27,6 +27,7 @@ pub fn is_closed(bundle: &Bundle<'_>, board: &Board, bound: u8) -> bool
     ensures is_open { result ≡ false
         → IsOpen (record { bundle = bundle.now; board = board.now; bound = bound }) }
 {
+    // Asked only for what its contract says.
     let (_side, _sets) = (board.side(), bundle.sets());
     let margin = margin_of(bound, board.blank_parity());
     bound < margin || sums_of(bundle, board, bound - margin).is_none()

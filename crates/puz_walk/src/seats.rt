@@ -65,6 +65,7 @@ fn seat_of(bundle: &Bundle<'_>, words: &[Words], set: u8, tile: u8, mv: Move) ->
     requires tile { tile < bundle.now.side * bundle.now.side }
     ensures { IsSeatOf bundle.now set tile mv result }
 {
+    // Asked only for what its contract says.
     let _sets = bundle.sets();
     match owner_of(bundle, set, tile) {
         Some(owner) => owned_seat(bundle, words, set, owner, mv),

@@ -51,6 +51,7 @@ pub(crate) fn tally_of(position: &Position<'_>, board: &Board, most: u8) -> Opti
         (GoesBeyond position.now.bundle position.now.board (most + 1)) }
 {
     let bundle = position.bundle();
+    // Asked only for what its contract says.
     let _sets = bundle.sets();
     let sums = sums_of(bundle, board, most)?;
     Some(Tally {

@@ -102,6 +102,7 @@ impl<'a> WordBundle<'a> {
         requires { cell < self.now.side * self.now.side }
         ensures { result ≡ step_of self.now.side cell mv }
     {
+        // Asked only for what its contract says.
         let _side = self.bundle.side();
         self.ways[way_place(cell, mv)]
     }

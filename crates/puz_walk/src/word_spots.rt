@@ -195,6 +195,7 @@ pub(crate) fn spot_of(bundle: &WordBundle<'_>, board: &Board, most: u8) -> Optio
         × AreBelow bundle.now board.now (most + 1)) }
     ensures none { IfNone result (GoesBeyond bundle.now board.now (most + 1)) }
 {
+    // Asked only for what its contract says.
     let _side = board.side();
     let sums = sums_of(bundle.bundle, board, most)?;
     Some(Spot {

@@ -50,6 +50,7 @@ impl<'a> WordWalk<'a> {
             walk ≡ record { bundle = bundle.now; board = board.now; bound = bound }) }
         ensures none { IfNone result (IsClosed bundle.now board.now bound) }
     {
+        // Asked only for what its contract says.
         let (_side, _sets) = (board.side(), bundle.sets());
         let margin = margin_of(bound, board.blank_parity());
         if bound < margin {

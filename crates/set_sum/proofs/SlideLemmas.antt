@@ -19,7 +19,7 @@ use Rattle.set_sum.specs.Known.{place_of, IsKnownOf}
 use Rattle.set_sum.specs.Steps.{IsStepFrom}
 use Rattle.set_sum.specs.Noting.{IsJoined}
 use Rattle.set_sum.specs.declared.known.Known.{Known}
-use Rattle.set_sum.specs.declared.known.Step.{Step}
+use Rattle.set_sum.specs.declared.known.PositionStep.{PositionStep}
 use Rattle.set_sum.proofs.KnownLemmas.{cells_after, known_before}
 use Rattle.set_sum.proofs.StillLemmas.{at-back, near_turned, slid-back, slid-near, tile_turned, turned}
 
@@ -92,7 +92,7 @@ step_leads n b cells good are move side same o is =
 pub step_adjacent : (n : ℕ) (b : List ℕ) → IsBoardOf n b → (move : Move) (to : ℕ) → step_of n (blank b) move ≡ Some to → Adjacent n (blank b) to
 step_adjacent n b good move to leads = (step_of-inside n (blank b) move to good.low good.high (blank_below n b good) leads, move, leads)
 
-module _ (v : ShownBundle) (b next : List ℕ) (step : Step) (is : IsStepFrom v b next step) where
+module _ (v : ShownBundle) (b next : List ℕ) (step : PositionStep) (is : IsStepFrom v b next step) where
   -- a slide to the cell that a step left leads back to the board before it
   pub step_back : slid next step.from ≡ b
   step_back = ap (λ x. slid x step.from) (sym is.leads) ∙ ap (slid (slid b is.to)) is.from ∙ slid-back v.side b is.board is.to is.near

@@ -156,6 +156,7 @@ impl<'a> Bundle<'a> {
         // It is at most the number of steps of any solution of the board. `Never` means that there is none.
         ensures bounds { BoundsSolutions board.now result }
     {
+        // Asked only for what its contract says.
         let _side = board.side();
         sum_of(&self.tables, &self.sets[usize::from(set)], board)
     }

@@ -22,7 +22,7 @@ pub(crate) struct Known {
 
 /// A step of a walk, by which it is taken back: where the blank was, and what was known of the board.
 #[derive(Clone, Copy)]
-pub struct Step {
+pub struct PositionStep {
     pub(crate) from: u8,
     pub(crate) known: Known,
 }

@@ -18,7 +18,7 @@ mod tables;
 
 pub use bundles::{Bundle, MOST_MEMBERS, MOST_SETS, MOST_TABLES};
 pub use faults::SetFault;
-pub use known::Step;
+pub use known::PositionStep;
 pub use members::Member;
 pub use parts::Part;
 pub use positions::Position;

@@ -9,7 +9,7 @@ ghost use Rattle.set_sum.specs.Members.{MemberSays};
 ghost use Rattle.set_sum.specs.Steps.{IsStepFrom};
 
 use crate::bundles::{Bundle, MOST_MEMBERS};
-use crate::known::{Known, Step, joined, note, said_by};
+use crate::known::{Known, PositionStep, joined, note, said_by};
 use crate::members::Member;
 use crate::owners::place_of;
 use crate::positions::Position;
@@ -87,7 +87,7 @@ impl<'a> Sums<'a> {
 
     /// Moves the board, where the blank stays on it. The answer is the step, by which the move is taken back.
     #[inline]
-    pub fn step(&mut self, mv: Move) -> Option<Step>
+    pub fn step(&mut self, mv: Move) -> Option<PositionStep>
         ensures none { IfNone result ((moved self.old.board mv ≡ None) × (self.new ≡ self.old)) }
         ensures some { IfSome result (λ step. (moved self.old.board mv ≡ Some self.new.board)
             × (self.new.bundle ≡ self.old.bundle)
@@ -95,7 +95,7 @@ impl<'a> Sums<'a> {
     {
         let from = self.position.blank();
         let to = self.position.after(mv)?;
-        let step = Step {
+        let step = PositionStep {
             from,
             known: self.known,
         };
@@ -106,7 +106,7 @@ impl<'a> Sums<'a> {
 
     /// Takes a step back. What was found out behind it and holds before it too is kept.
     #[inline]
-    pub fn take_back(&mut self, step: &Step)
+    pub fn take_back(&mut self, step: &PositionStep)
         requires { (b : List ℕ) × IsStepFrom self.old.bundle b self.old.board step.now }
         ensures { (b : List ℕ) → IsStepFrom self.old.bundle b self.old.board step.now
             → self.new ≡ record { bundle = self.old.bundle; board = b } }
@@ -141,6 +141,7 @@ impl<'a> Sums<'a> {
         ensures few { (d : ℕ) → result ≡ Finite d → d ≤ 255 }
         ensures same { self.new ≡ self.old }
     {
+        // Asked only for what its contract says.
         let _side = self.position.bundle().side();
         let place = place_of(member);
         if !has_cell(self.known.places, place) {

@@ -2,7 +2,7 @@
 
 use crate::searches::find;
 use crate::states::States;
-use crate::strings::{Found, LONGEST, Strings};
+use crate::strings::{FoundString, LONGEST, Strings};
 use move_strings::{Draft, Forbidden};
 use std::alloc::{AllocError, Global};
 
@@ -32,7 +32,11 @@ fn forbidden_of(alloc: Global, strings: &Strings) -> Result<Vec<Forbidden>, Allo
 }
 
 /// A forbidden string with its witness.
-fn forbidden_as(alloc: Global, strings: &Strings, found: &Found) -> Result<Forbidden, AllocError> {
+fn forbidden_as(
+    alloc: Global,
+    strings: &Strings,
+    found: &FoundString,
+) -> Result<Forbidden, AllocError> {
     let mut string = strings.moves_of(alloc, found.front)?;
     string.push(found.last)?;
     let witness = strings.moves_of(alloc, found.witness)?;

@@ -3,14 +3,14 @@
 use crate::effects::Effect;
 use crate::grids::Grid;
 use crate::indices::Index;
-use crate::strings::{Child, Found, Strings, number_of};
+use crate::strings::{Child, FoundString, Strings, number_of};
 use move_strings::rank_of_move;
 use puz_board::{MOVES, Move};
 use std::alloc::{AllocError, Global};
 
 /// A search that lengthens strings move by move.
 #[derive(Drop)]
-struct Search {
+struct StringSearch {
     strings: Strings,
     index: Index,
     grid: Grid,
@@ -20,7 +20,7 @@ struct Search {
 
 /// The strings of up to so many moves that have no forbidden one in them, and the forbidden ones.
 pub(crate) fn find(alloc: Global, longest: u8) -> Result<Strings, AllocError> {
-    let mut search = Search {
+    let mut search = StringSearch {
         strings: Strings::new(alloc),
         index: Index::new(alloc)?,
         grid: Grid::new(),
@@ -36,7 +36,7 @@ pub(crate) fn find(alloc: Global, longest: u8) -> Result<Strings, AllocError> {
     Ok(search.strings)
 }
 
-impl Search {
+impl StringSearch {
     /// Lengthens the strings from one number to another.
     fn lengthen_all(&mut self, alloc: Global, start: usize, end: usize) -> Result<(), AllocError> {
         for number in start..end {
@@ -64,7 +64,7 @@ impl Search {
         };
         let effect = self.index.effect(front).after(self.grid.slide(mv));
         match self.index.find(&effect) {
-            Some(witness) => self.strings.forbid(Found {
+            Some(witness) => self.strings.forbid(FoundString {
                 front,
                 last: mv,
                 witness,

@@ -12,7 +12,7 @@ pub(crate) const EMPTY: u32 = 0;
 
 /// A string that has no forbidden one in it.
 #[derive(Clone, Copy)]
-struct Node {
+struct FreeString {
     /// The number of the string without its last move.
     front: u32,
     /// The last move.
@@ -34,7 +34,7 @@ pub(crate) enum Child {
 
 /// A forbidden string.
 #[derive(Clone, Copy)]
-pub(crate) struct Found {
+pub(crate) struct FoundString {
     /// The number of the string without its last move.
     pub(crate) front: u32,
     /// The last move.
@@ -47,10 +47,10 @@ pub(crate) struct Found {
 #[derive(Drop)]
 pub(crate) struct Strings {
     /// Those but the empty one.
-    nodes: Vec<Node>,
+    nodes: Vec<FreeString>,
     /// What the strings are with one more move, as far as they have been tried.
     children: Vec<[Child; 4]>,
-    pub(crate) found: Vec<Found>,
+    pub(crate) found: Vec<FoundString>,
 }
 
 impl Strings {
@@ -103,12 +103,12 @@ impl Strings {
 
     /// Adds a string that has no forbidden one in it, and answers its number.
     pub(crate) fn keep(&mut self, front: u32, last: Move, tail: u32) -> Result<Child, AllocError> {
-        self.nodes.push(Node { front, last, tail })?;
+        self.nodes.push(FreeString { front, last, tail })?;
         Ok(Child::Kept(number_of(self.nodes.len())?))
     }
 
     /// Adds a forbidden string, and answers its number.
-    pub(crate) fn forbid(&mut self, found: Found) -> Result<Child, AllocError> {
+    pub(crate) fn forbid(&mut self, found: FoundString) -> Result<Child, AllocError> {
         let number = number_of(self.found.len())?;
         self.found.push(found)?;
         Ok(Child::Forbidden(number))
@@ -144,7 +144,7 @@ impl Strings {
 
     /// A string but the empty one.
     #[inline]
-    fn node(&self, string: u32) -> Option<&Node> {
+    fn node(&self, string: u32) -> Option<&FreeString> {
         self.nodes.get((string as usize).checked_sub(1)?)
     }
 }

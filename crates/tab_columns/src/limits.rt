@@ -6,9 +6,7 @@ ghost use Rattle.tab_rule.specs.Blocks.{block_count};
 ghost use Rattle.tab_rule.specs.Limits.{IsPassed, IsPast, KeepsRuleUpTo};
 
 use crate::blocks::columns_of;
-use tab_file::{
-    GOAL_SLOT, NO_REGION, NO_WAY_HOME, OTHER_SLOT, TableView, WITHOUT_REGION,
-};
+use tab_file::{GOAL_SLOT, NO_REGION, NO_WAY_HOME, OTHER_SLOT, TableView, WITHOUT_REGION};
 use tab_rule::block_count;
 
 /// Whether the counts of the pattern's boards pass a count, as this table shows: each entry keeps the local rule up to it,

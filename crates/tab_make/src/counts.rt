@@ -4,8 +4,8 @@ ghost use Rattle.std.specs.Prelude.{◌≡◌, ◌<◌, ◌+◌, ◌^◌, IfErr,
 ghost use Rattle.tab_make.specs.Faults.{IsBuildFault};
 
 use crate::entries::entry_of;
-use crate::faults::{MakeFault, Stop};
-use crate::grids::Grid;
+use crate::faults::{MakeFault, Unmade};
+use crate::grids::PatternGrid;
 use crate::hosts::Host;
 use crate::layers::layer;
 use crate::shapes::Shapes;
@@ -35,7 +35,7 @@ impl Counts {
     /// The counts for the pattern whose tiles are the bits of a mask.
     pub(crate) fn new<R: Threads + Sync, G: Gate>(
         host: &Host<'_, R, G>,
-        grid: &Grid,
+        grid: &PatternGrid,
         shapes: &Shapes,
         mask: u32,
     ) -> Result<Counts, MakeFault>
@@ -45,7 +45,7 @@ impl Counts {
         let steps = Steps::new(alloc, grid, shapes)?;
         // At home each tile stands on the cell of its number, and the blank is in cell 0.
         let home = shapes.with_cells(mask, 1)?;
-        let mut reached = Reached::at(alloc, shapes, &steps, home)?;
+        let mut reached = ReachedShapes::at(alloc, shapes, &steps, home)?;
         for before in 0..=GREATEST_COUNT {
             let lists = reached.find_after(rt, alloc, &steps, before)?;
             if lists.as_slice().iter().all(|found| found.shapes.is_empty()) {
@@ -74,20 +74,20 @@ impl Counts {
 
     /// The count of an order of a shape, as an entry.
     #[inline]
-    pub(crate) fn entry(&self, shape: u32, order: u32) -> Result<u8, Stop> {
+    pub(crate) fn entry(&self, shape: u32, order: u32) -> Result<u8, Unmade> {
         let orders = usize::from(self.orders);
         let first = shape as usize * orders;
         let place = first + order as usize;
-        self.entries.get(place).copied().ok_or(Stop::WrongNumber)
+        self.entries.get(place).copied().ok_or(Unmade::WrongNumber)
     }
 
     /// Writes an entry for each order of a set, at a shape.
-    fn write(&mut self, shape: u32, orders: &[u64], entry: u8) -> Result<(), Stop> {
+    fn write(&mut self, shape: u32, orders: &[u64], entry: u8) -> Result<(), Unmade> {
         let count = usize::from(self.orders);
         let first = shape as usize * count;
         let end = first + count;
         if end > self.entries.len() {
-            return Err(Stop::WrongNumber);
+            return Err(Unmade::WrongNumber);
         }
         write_entries(orders, &mut self.entries[first..end], entry)
     }
@@ -103,7 +103,7 @@ fn entry_after(before: u8) -> Option<u8>
 
 /// What walks from the tiles at home have reached.
 #[derive(Drop)]
-struct Reached {
+struct ReachedShapes {
     counts: Counts,
     /// How many counts are found.
     found: u64,
@@ -118,9 +118,14 @@ struct Reached {
     ghost some: { 0 < words },
 }
 
-impl Reached {
+impl ReachedShapes {
     /// What is reached before any move, with the tiles in the last order of a shape.
-    fn at(alloc: Global, shapes: &Shapes, steps: &Steps, home: u32) -> Result<Reached, Stop> {
+    fn at(
+        alloc: Global,
+        shapes: &Shapes,
+        steps: &Steps,
+        home: u32,
+    ) -> Result<ReachedShapes, Unmade> {
         let orders = steps.turns.orders;
         let words = orders.div_ceil(ORDERS_OF_WORD as u16);
         let count = shapes.as_slice().len();
@@ -129,7 +134,7 @@ impl Reached {
             entries: vec![in alloc; NO_WAY_HOME; of_each(count, orders)?]?,
             is_passed: false,
         };
-        let mut reached = Reached {
+        let mut reached = ReachedShapes {
             counts,
             found: 1,
             words,
@@ -138,7 +143,7 @@ impl Reached {
             near: vec![in alloc; NO_WAY_HOME; count]?,
         };
         let mut first = vec![in alloc; 0; usize::from(words)]?;
-        let last = orders.checked_sub(1).ok_or(Stop::WrongNumber)?;
+        let last = orders.checked_sub(1).ok_or(Unmade::WrongNumber)?;
         add(usize::from(last), first.as_mut_slice())?;
         reached.write(steps, home, first.as_slice(), 0)?;
         Ok(reached)
@@ -151,27 +156,27 @@ impl Reached {
         alloc: Global,
         steps: &Steps,
         before: u8,
-    ) -> Result<Vec<Found>, Stop> {
+    ) -> Result<Vec<ShapeOrders>, Unmade> {
         let near = layer(rt, alloc, self.near_layers()?, before)?;
         let piece = PIECE / usize::from(self.counts.orders).max(1);
         near.as_slice()
             .par_chunks(piece.max(1))
             .with_min_len(1)
-            .map(|shapes: &[u32]| -> Result<Found, Stop> {
+            .map(|shapes: &[u32]| -> Result<ShapeOrders, Unmade> {
                 self.find(alloc, steps, shapes, before)
             })
-            .collect::<Result<Vec<Found>, Stop>>(rt, alloc)?
+            .collect::<Result<Vec<ShapeOrders>, Unmade>>(rt, alloc)?
     }
 
     /// The last layer that reached a shape one move away from each shape.
-    fn near_layers(&self) -> Result<&[u8], Stop>
+    fn near_layers(&self) -> Result<&[u8], Unmade>
         ensures { IfOk result (λ near. length near.now < 2 ^ 32) }
     {
         let near = self.near.as_slice();
         if near.len() <= u32::MAX as usize {
             Ok(near)
         } else {
-            Err(Stop::WrongNumber)
+            Err(Unmade::WrongNumber)
         }
     }
 
@@ -182,8 +187,8 @@ impl Reached {
         steps: &Steps,
         shapes: &[u32],
         before: u8,
-    ) -> Result<Found, Stop> {
-        let mut found = Found::new(alloc);
+    ) -> Result<ShapeOrders, Unmade> {
+        let mut found = ShapeOrders::new(alloc);
         let mut orders = vec![in alloc; 0; usize::from(self.words)]?;
         for shape in shapes {
             orders.as_mut_slice().fill(0);
@@ -206,9 +211,12 @@ impl Reached {
         shape: u32,
         before: u8,
         orders: &mut [u64],
-    ) -> Result<(), Stop> {
+    ) -> Result<(), Unmade> {
         for step in steps.to(shape)? {
-            let last = self.last.get(step.shape as usize).ok_or(Stop::WrongNumber)?;
+            let last = self
+                .last
+                .get(step.shape as usize)
+                .ok_or(Unmade::WrongNumber)?;
             if *last == before {
                 let last_orders = self.last_orders_of(step.shape)?;
                 steps.turns.add_turned(step.turn, last_orders, orders)?;
@@ -220,16 +228,21 @@ impl Reached {
 
     /// The orders of a shape in the last layer that reached it.
     #[inline]
-    fn last_orders_of(&self, shape: u32) -> Result<&[u64], Stop> {
+    fn last_orders_of(&self, shape: u32) -> Result<&[u64], Unmade> {
         let words = usize::from(self.words);
         let first = shape as usize * words;
         self.last_orders
             .get(first..first + words)
-            .ok_or(Stop::WrongNumber)
+            .ok_or(Unmade::WrongNumber)
     }
 
     /// Writes what a layer reaches.
-    fn write_lists(&mut self, steps: &Steps, lists: &[Found], entry: u8) -> Result<(), Stop> {
+    fn write_lists(
+        &mut self,
+        steps: &Steps,
+        lists: &[ShapeOrders],
+        entry: u8,
+    ) -> Result<(), Unmade> {
         for found in lists {
             self.write_list(steps, found, entry)?;
             self.found = self.found.wrapping_add(found.count);
@@ -238,7 +251,7 @@ impl Reached {
     }
 
     /// Writes what a layer reaches of some shapes.
-    fn write_list(&mut self, steps: &Steps, found: &Found, entry: u8) -> Result<(), Stop> {
+    fn write_list(&mut self, steps: &Steps, found: &ShapeOrders, entry: u8) -> Result<(), Unmade> {
         let sets = found.orders.chunks(usize::from(self.words));
         for (shape, orders) in found.shapes.iter().zip(sets) {
             self.write(steps, *shape, orders, entry)?;
@@ -247,13 +260,22 @@ impl Reached {
     }
 
     /// Writes the orders of a shape that a layer reaches.
-    fn write(&mut self, steps: &Steps, shape: u32, orders: &[u64], entry: u8) -> Result<(), Stop> {
-        *self.last.get_mut(shape as usize).ok_or(Stop::WrongNumber)? = entry;
+    fn write(
+        &mut self,
+        steps: &Steps,
+        shape: u32,
+        orders: &[u64],
+        entry: u8,
+    ) -> Result<(), Unmade> {
+        *self
+            .last
+            .get_mut(shape as usize)
+            .ok_or(Unmade::WrongNumber)? = entry;
         let words = usize::from(self.words);
         let first = shape as usize * words;
         let end = first + words;
         if end > self.last_orders.len() {
-            return Err(Stop::WrongNumber);
+            return Err(Unmade::WrongNumber);
         }
         copy(orders, &mut self.last_orders[first..end]);
         self.counts.write(shape, orders, entry)?;
@@ -261,31 +283,31 @@ impl Reached {
             *self
                 .near
                 .get_mut(step.shape as usize)
-                .ok_or(Stop::WrongNumber)? = entry;
+                .ok_or(Unmade::WrongNumber)? = entry;
         }
         Ok(())
     }
 }
 
 /// How many there are where each of some shapes has as many.
-fn of_each(shapes: usize, count: u16) -> Result<usize, Stop> {
+fn of_each(shapes: usize, count: u16) -> Result<usize, Unmade> {
     shapes
         .checked_mul(usize::from(count))
-        .ok_or(Stop::WrongNumber)
+        .ok_or(Unmade::WrongNumber)
 }
 
 /// Shapes, and for each a set of its orders.
 #[derive(Drop)]
-struct Found {
+struct ShapeOrders {
     /// How many orders these are.
     count: u64,
     shapes: Vec<u32>,
     orders: Vec<u64>,
 }
 
-impl Found {
-    fn new(alloc: Global) -> Found {
-        Found {
+impl ShapeOrders {
+    fn new(alloc: Global) -> ShapeOrders {
+        ShapeOrders {
             count: 0,
             shapes: Vec::new(alloc),
             orders: Vec::new(alloc),
@@ -317,7 +339,7 @@ fn remove_all(others: &[u64], orders: &mut [u64]) {
 }
 
 /// Writes an entry for each order of a set.
-fn write_entries(orders: &[u64], entries: &mut [u8], entry: u8) -> Result<(), Stop> {
+fn write_entries(orders: &[u64], entries: &mut [u8], entry: u8) -> Result<(), Unmade> {
     for (word, entries) in orders.iter().zip(entries.chunks_mut(ORDERS_OF_WORD)) {
         write_entries_of_word(*word, entries, entry)?;
     }
@@ -326,12 +348,12 @@ fn write_entries(orders: &[u64], entries: &mut [u8], entry: u8) -> Result<(), St
 
 /// Writes an entry for each order of a word.
 #[inline]
-fn write_entries_of_word(word: u64, entries: &mut [u8], entry: u8) -> Result<(), Stop> {
+fn write_entries_of_word(word: u64, entries: &mut [u8], entry: u8) -> Result<(), Unmade> {
     let mut rest = word;
     while rest != 0 {
         let place = entries
             .get_mut(take_order(&mut rest))
-            .ok_or(Stop::WrongNumber)?;
+            .ok_or(Unmade::WrongNumber)?;
         *place = entry;
     }
     Ok(())

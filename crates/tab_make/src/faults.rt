@@ -34,32 +34,32 @@ impl From<AllocError> for MakeFault {
 
 /// Why a table is not made to its end.
 #[derive(Clone, Copy, Debug, PartialEq, Eq)]
-pub(crate) enum Stop {
+pub(crate) enum Unmade {
     /// There isn't the memory.
     NoMemory,
     /// A number is not one of those that there are of its kind.
     WrongNumber,
 }
 
-impl From<AllocError> for Stop {
-    fn from(_: AllocError) -> Stop {
-        Stop::NoMemory
+impl From<AllocError> for Unmade {
+    fn from(_: AllocError) -> Unmade {
+        Unmade::NoMemory
     }
 }
 
-impl<T: Drop> From<AllocFailed<T>> for Stop {
-    fn from(_: AllocFailed<T>) -> Stop {
-        Stop::NoMemory
+impl<T: Drop> From<AllocFailed<T>> for Unmade {
+    fn from(_: AllocFailed<T>) -> Unmade {
+        Unmade::NoMemory
     }
 }
 
-impl From<Stop> for MakeFault {
+impl From<Unmade> for MakeFault {
     ghost from_gives = { λ stop fault. fault ≡ of_stop stop };
 
-    fn from(stop: Stop) -> MakeFault {
+    fn from(stop: Unmade) -> MakeFault {
         match stop {
-            Stop::NoMemory => MakeFault::Memory,
-            Stop::WrongNumber => MakeFault::Wrong,
+            Unmade::NoMemory => MakeFault::Memory,
+            Unmade::WrongNumber => MakeFault::Wrong,
         }
     }
 }

@@ -3,14 +3,14 @@
 ghost use Rattle.std.specs.Prelude.{◌≡◌, ◌*◌, ◌<◌, ◌≤◌, IfOk};
 
 use crate::entries::MOST_TILES;
-use crate::faults::Stop;
+use crate::faults::Unmade;
 use pat_place::Pattern;
 use puz_board::Side;
 use puz_board::masks::{all_below, select};
 
 /// What is the same for all placements of a pattern.
 #[derive(Clone, Copy)]
-pub(crate) struct Grid {
+pub(crate) struct PatternGrid {
     /// The side of the board.
     pub(crate) side: Side,
     /// How many tiles the pattern has.
@@ -30,14 +30,14 @@ pub(crate) struct Grid {
     ghost some: { 0 < run },
 }
 
-impl Grid {
+impl PatternGrid {
     /// The grid of a pattern.
-    pub(crate) fn new(pattern: &Pattern) -> Result<Grid, Stop> {
+    pub(crate) fn new(pattern: &Pattern) -> Result<PatternGrid, Unmade> {
         let side = pattern.side();
         let all = all_below(side.cells());
         let width = pattern.width();
         let run = side.cells() + 1 - pattern.size();
-        Ok(Grid {
+        Ok(PatternGrid {
             side,
             size: pattern.size(),
             width: usize::from(width),
@@ -50,18 +50,18 @@ impl Grid {
 
 /// The cell of a mask that has so many cells of it before it.
 #[inline]
-pub(crate) fn cell_at(mask: u32, place: u32) -> Result<u8, Stop>
+pub(crate) fn cell_at(mask: u32, place: u32) -> Result<u8, Unmade>
     ensures { IfOk result (λ cell. cell < 32) }
 {
     if place < mask.count_ones() {
         Ok(select(mask, place as u8))
     } else {
-        Err(Stop::WrongNumber)
+        Err(Unmade::WrongNumber)
     }
 }
 
 /// How many entries stand between two placements of which one has a tile in the next cell that is left for it.
-fn weights(pattern: &Pattern) -> Result<[u32; MOST_TILES], Stop> {
+fn weights(pattern: &Pattern) -> Result<[u32; MOST_TILES], Unmade> {
     let cells = u32::from(pattern.side().cells());
     let mut weights = [0; MOST_TILES];
     let mut weight = u32::from(pattern.width());
@@ -69,8 +69,8 @@ fn weights(pattern: &Pattern) -> Result<[u32; MOST_TILES], Stop> {
         weights[usize::from(index)] = weight;
         let left = cells
             .checked_sub(u32::from(index))
-            .ok_or(Stop::WrongNumber)?;
-        weight = weight.checked_mul(left).ok_or(Stop::WrongNumber)?;
+            .ok_or(Unmade::WrongNumber)?;
+        weight = weight.checked_mul(left).ok_or(Unmade::WrongNumber)?;
     }
     Ok(weights)
 }

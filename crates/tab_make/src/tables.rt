@@ -6,11 +6,11 @@ ghost use Rattle.tab_file.specs.Tables.{entry_count};
 ghost use Rattle.tab_make.specs.Faults.{IsBuildFault};
 
 use crate::counts::Counts;
-use crate::faults::{MakeFault, Stop};
-use crate::grids::Grid;
+use crate::faults::{MakeFault, Unmade};
+use crate::grids::PatternGrid;
 use crate::hosts::Host;
 use crate::shapes::Shapes;
-use crate::walks::{Placed, Walk};
+use crate::walks::{Placed, PlacementWalk};
 use pat_place::Pattern;
 use puz_board::masks::{first_of, with, without};
 use rayon::prelude::*;
@@ -63,7 +63,7 @@ pub fn draft<R: Threads + Sync, G: Gate + Sync>(
     ensures fault { IfErr result IsBuildFault }
 {
     let host = Host { rt, alloc, gate };
-    let grid = Grid::new(pattern)?;
+    let grid = PatternGrid::new(pattern)?;
     let shapes = Shapes::new(alloc, pattern)?;
     let counts = Counts::new(&host, &grid, &shapes, pattern.mask())?;
     let mut file = unfilled_file(alloc, pattern)?;
@@ -105,11 +105,11 @@ fn unfilled_behind(alloc: Global, front: &[u8], len: usize) -> Result<Vec<u8>, A
 /// Fills in all entries of slots that have a region, run by run: the placements of a run differ in the last tile alone.
 fn fill_entries<R: Threads + Sync, G: Gate + Sync>(
     host: &Host<'_, R, G>,
-    grid: &Grid,
+    grid: &PatternGrid,
     shapes: &Shapes,
     counts: &Counts,
     entries: &mut [u8],
-) -> Result<(), Stop> {
+) -> Result<(), Unmade> {
     let (rt, gate) = (host.rt, host.gate);
     let all = entries.len() as u64;
     let is_filled = AtomicBool::new(true);
@@ -122,48 +122,48 @@ fn fill_entries<R: Threads + Sync, G: Gate + Sync>(
     if is_filled.load(Ordering::SeqCst) {
         Ok(())
     } else {
-        Err(Stop::WrongNumber)
+        Err(Unmade::WrongNumber)
     }
 }
 
 /// Fills in the entries of the runs from an entry on.
 fn fill_runs(
-    grid: &Grid,
+    grid: &PatternGrid,
     shapes: &Shapes,
     counts: &Counts,
     start: usize,
     runs: &mut [u8],
-) -> Result<(), Stop> {
-    let mut number = u32::try_from(start).ok().ok_or(Stop::WrongNumber)?;
-    let mut walk = Walk::new(grid)?;
+) -> Result<(), Unmade> {
+    let mut number = u32::try_from(start).ok().ok_or(Unmade::WrongNumber)?;
+    let mut walk = PlacementWalk::new(grid)?;
     for entries in runs.chunks_mut(usize::from(grid.run)) {
         walk.go_to(number)?;
         fill_run(grid, shapes, counts, &walk.placed(), entries)?;
         number = number
             .checked_add(u32::from(grid.run))
-            .ok_or(Stop::WrongNumber)?;
+            .ok_or(Unmade::WrongNumber)?;
     }
     Ok(())
 }
 
 /// Fills in the entries of a run.
 fn fill_run(
-    grid: &Grid,
+    grid: &PatternGrid,
     shapes: &Shapes,
     counts: &Counts,
     placed: &Placed,
     entries: &mut [u8],
-) -> Result<(), Stop> {
+) -> Result<(), Unmade> {
     let mut free = grid.all & !placed.set;
     for slots in entries.chunks_mut(grid.width) {
         if free == 0 {
-            return Err(Stop::WrongNumber);
+            return Err(Unmade::WrongNumber);
         }
         let cell = first_of(free);
         free = without(free, cell);
         let order = placed.next_order(grid.size - 1, cell);
         if !counts.has_order(order) {
-            return Err(Stop::WrongNumber);
+            return Err(Unmade::WrongNumber);
         }
         let shapes = shapes.of_set(with(placed.set, cell))?;
         for (slot, shape) in slots.iter_mut().zip(shapes) {

@@ -3,8 +3,8 @@
 ghost use Rattle.std.specs.Prelude.{◌<◌, ◌≤◌};
 
 use crate::entries::MOST_TILES;
-use crate::faults::Stop;
-use crate::grids::{Grid, cell_at};
+use crate::faults::Unmade;
+use crate::grids::{PatternGrid, cell_at};
 use puz_board::masks::{all_below, without};
 use std::alloc::Global;
 
@@ -36,7 +36,7 @@ const NO_ROW: u32 = u32::MAX;
 
 impl Turns {
     /// The turns of a pattern's tiles. A move passes fewer tiles than a row has cells.
-    pub(crate) fn new(alloc: Global, grid: &Grid) -> Result<Turns, Stop> {
+    pub(crate) fn new(alloc: Global, grid: &PatternGrid) -> Result<Turns, Unmade> {
         let swaps = Swaps::new(alloc, grid.size)?;
         let mut turns = Turns {
             orders: ORDERS[usize::from(grid.size)],
@@ -56,13 +56,13 @@ impl Turns {
     }
 
     /// Where the row begins of a tile that goes from one place among the tiles to another.
-    pub(crate) fn turn(&self, from: u8, to: u8) -> Result<u32, Stop> {
+    pub(crate) fn turn(&self, from: u8, to: u8) -> Result<u32, Unmade> {
         let (from, to) = (usize::from(from), usize::from(to));
         if from >= MOST_TILES || to >= MOST_TILES {
-            return Err(Stop::WrongNumber);
+            return Err(Unmade::WrongNumber);
         }
         match self.starts[from * MOST_TILES + to] {
-            NO_ROW => Err(Stop::WrongNumber),
+            NO_ROW => Err(Unmade::WrongNumber),
             start => Ok(start),
         }
     }
@@ -74,7 +74,7 @@ impl Turns {
         turn: u32,
         orders: &[u64],
         turned: &mut [u64],
-    ) -> Result<(), Stop> {
+    ) -> Result<(), Unmade> {
         if turn == KEEPS {
             add_all(orders, turned);
             return Ok(());
@@ -84,18 +84,18 @@ impl Turns {
 
     /// The row that begins at a place.
     #[inline]
-    fn row(&self, start: u32) -> Result<&[u16], Stop> {
+    fn row(&self, start: u32) -> Result<&[u16], Unmade> {
         let start = start as usize;
         self.rows
             .get(start..start + usize::from(self.orders))
-            .ok_or(Stop::WrongNumber)
+            .ok_or(Unmade::WrongNumber)
     }
 
     /// Adds the row for two places, and answers where it begins.
-    fn push_row(&mut self, swaps: &Swaps, from: u8, to: u8) -> Result<u32, Stop> {
+    fn push_row(&mut self, swaps: &Swaps, from: u8, to: u8) -> Result<u32, Unmade> {
         let start = u32::try_from(self.rows.len())
             .ok()
-            .ok_or(Stop::WrongNumber)?;
+            .ok_or(Unmade::WrongNumber)?;
         for order in 0..self.orders {
             self.rows.push(swaps.turned(order, from, to)?)?;
         }
@@ -110,7 +110,7 @@ struct Swaps {
 }
 
 impl Swaps {
-    fn new(alloc: Global, tiles: u8) -> Result<Swaps, Stop>
+    fn new(alloc: Global, tiles: u8) -> Result<Swaps, Unmade>
         requires { tiles ≤ 8 }
     {
         let mut rows = Vec::new(alloc);
@@ -121,7 +121,7 @@ impl Swaps {
     }
 
     /// The order in which a tile has gone from one place to another, step by step.
-    fn turned(&self, order: u16, from: u8, to: u8) -> Result<u16, Stop> {
+    fn turned(&self, order: u16, from: u8, to: u8) -> Result<u16, Unmade> {
         let mut turned = order;
         for step in 0..from.abs_diff(to) {
             let place = if from < to {
@@ -135,18 +135,21 @@ impl Swaps {
     }
 
     /// The order in which the tile at a place and the one before it are swapped.
-    fn swapped(&self, order: u16, place: u8) -> Result<u16, Stop> {
-        let swaps = self.rows.get(usize::from(order)).ok_or(Stop::WrongNumber)?;
+    fn swapped(&self, order: u16, place: u8) -> Result<u16, Unmade> {
+        let swaps = self
+            .rows
+            .get(usize::from(order))
+            .ok_or(Unmade::WrongNumber)?;
         swaps
             .get(usize::from(place))
             .copied()
-            .ok_or(Stop::WrongNumber)
+            .ok_or(Unmade::WrongNumber)
     }
 }
 
 /// The orders in which the tile at a place and the one before it are swapped. The later one of these tiles has then one
 /// more or one fewer of the tiles before it on lower cells.
-fn swaps_of(order: u16, tiles: u8) -> Result<[u16; MOST_TILES], Stop>
+fn swaps_of(order: u16, tiles: u8) -> Result<[u16; MOST_TILES], Unmade>
     requires { tiles ≤ 8 }
 {
     let standing = tiles_in(order, tiles)?;
@@ -159,23 +162,25 @@ fn swaps_of(order: u16, tiles: u8) -> Result<[u16; MOST_TILES], Stop>
         } else {
             order.checked_add(weight)
         };
-        swaps[place] = swapped.ok_or(Stop::WrongNumber)?;
+        swaps[place] = swapped.ok_or(Unmade::WrongNumber)?;
     }
     Ok(swaps)
 }
 
 /// By how much the number of an order grows where a tile has one more of those before it on lower cells.
-fn weight_of(tile: u8, tiles: u8) -> Result<u16, Stop>
+fn weight_of(tile: u8, tiles: u8) -> Result<u16, Unmade>
     requires { tiles ≤ 8 }
 {
-    let with_it = ORDERS.get(usize::from(tile) + 1).ok_or(Stop::WrongNumber)?;
+    let with_it = ORDERS
+        .get(usize::from(tile) + 1)
+        .ok_or(Unmade::WrongNumber)?;
     ORDERS[usize::from(tiles)]
         .checked_div(*with_it)
-        .ok_or(Stop::WrongNumber)
+        .ok_or(Unmade::WrongNumber)
 }
 
 /// Which tiles stand at the places of an order. From the last tile on, each takes one of the places that are left.
-fn tiles_in(order: u16, tiles: u8) -> Result<[u8; MOST_TILES], Stop>
+fn tiles_in(order: u16, tiles: u8) -> Result<[u8; MOST_TILES], Unmade>
     requires { tiles ≤ 8 }
 {
     let mut standing = [0; MOST_TILES];
@@ -188,7 +193,7 @@ fn tiles_in(order: u16, tiles: u8) -> Result<[u8; MOST_TILES], Stop>
         free = without(free, place);
         *standing
             .get_mut(usize::from(place))
-            .ok_or(Stop::WrongNumber)? = tile;
+            .ok_or(Unmade::WrongNumber)? = tile;
     }
     Ok(standing)
 }
@@ -203,7 +208,7 @@ fn add_all(orders: &[u64], turned: &mut [u64]) {
 
 /// Adds the orders that a row has for those of a set.
 #[inline]
-fn add_by_row(row: &[u16], orders: &[u64], turned: &mut [u64]) -> Result<(), Stop> {
+fn add_by_row(row: &[u16], orders: &[u64], turned: &mut [u64]) -> Result<(), Unmade> {
     for (word, part) in orders.iter().zip(row.chunks(ORDERS_OF_WORD)) {
         add_of_word(part, *word, turned)?;
     }
@@ -212,10 +217,10 @@ fn add_by_row(row: &[u16], orders: &[u64], turned: &mut [u64]) -> Result<(), Sto
 
 /// Adds the orders that part of a row has for those of a word.
 #[inline]
-fn add_of_word(row: &[u16], word: u64, turned: &mut [u64]) -> Result<(), Stop> {
+fn add_of_word(row: &[u16], word: u64, turned: &mut [u64]) -> Result<(), Unmade> {
     let mut rest = word;
     while rest != 0 {
-        let order = row.get(take_order(&mut rest)).ok_or(Stop::WrongNumber)?;
+        let order = row.get(take_order(&mut rest)).ok_or(Unmade::WrongNumber)?;
         add(usize::from(*order), turned)?;
     }
     Ok(())
@@ -234,10 +239,10 @@ pub(crate) fn take_order(word: &mut u64) -> usize
 
 /// Adds one order.
 #[inline]
-pub(crate) fn add(order: usize, orders: &mut [u64]) -> Result<(), Stop> {
+pub(crate) fn add(order: usize, orders: &mut [u64]) -> Result<(), Unmade> {
     let word = orders
         .get_mut(order / ORDERS_OF_WORD)
-        .ok_or(Stop::WrongNumber)?;
+        .ok_or(Unmade::WrongNumber)?;
     *word |= 1 << (order % ORDERS_OF_WORD);
     Ok(())
 }

@@ -3,8 +3,8 @@
 ghost use Rattle.std.specs.Prelude.{◌+◌, ◌<◌, ◌≤◌, ◌^◌};
 
 use crate::entries::MOST_TILES;
-use crate::faults::Stop;
-use crate::grids::{Grid, cell_at};
+use crate::faults::Unmade;
+use crate::grids::{PatternGrid, cell_at};
 use puz_board::masks::{count_below, with};
 
 /// The first tiles of a pattern in their cells.
@@ -21,21 +21,21 @@ pub(crate) struct Placed {
 /// A placement of all tiles but the last among those of a pattern, from which later ones are found at little cost: where
 /// only the last of these tiles change their cells, nothing is done for the others.
 #[derive(Clone, Copy)]
-pub(crate) struct Walk<'a> {
-    grid: &'a Grid,
+pub(crate) struct PlacementWalk<'a> {
+    grid: &'a PatternGrid,
     /// Each tile and those before it, and at first no tile.
     placed: [Placed; MOST_TILES],
 }
 
-impl<'a> Walk<'a> {
+impl<'a> PlacementWalk<'a> {
     /// The first placement.
-    pub(crate) fn new(grid: &'a Grid) -> Result<Walk<'a>, Stop> {
+    pub(crate) fn new(grid: &'a PatternGrid) -> Result<PlacementWalk<'a>, Unmade> {
         let none = Placed {
             first: 0,
             set: 0,
             order: 0,
         };
-        let mut walk = Walk {
+        let mut walk = PlacementWalk {
             grid,
             placed: [none; MOST_TILES],
         };
@@ -50,10 +50,10 @@ impl<'a> Walk<'a> {
     }
 
     /// Goes to the placement that has the entry.
-    pub(crate) fn go_to(&mut self, number: u32) -> Result<(), Stop> {
+    pub(crate) fn go_to(&mut self, number: u32) -> Result<(), Unmade> {
         for index in 0..self.grid.size - 1 {
             let first = self.placed[usize::from(index) + 1].first;
-            let on = number.checked_sub(first).ok_or(Stop::WrongNumber)?;
+            let on = number.checked_sub(first).ok_or(Unmade::WrongNumber)?;
             if on >= self.grid.weights[usize::from(index)] {
                 return self.place_from(index, number);
             }
@@ -62,7 +62,7 @@ impl<'a> Walk<'a> {
     }
 
     /// Places the tiles from this one on for an entry.
-    fn place_from(&mut self, index: u8, number: u32) -> Result<(), Stop> {
+    fn place_from(&mut self, index: u8, number: u32) -> Result<(), Unmade> {
         for index in index..self.grid.size - 1 {
             let before = self.placed[usize::from(index)];
             let weight = self.grid.weights[usize::from(index)];
@@ -76,15 +76,21 @@ impl<'a> Walk<'a> {
 
 impl Placed {
     /// These tiles, and the next one where it stands for an entry.
-    fn and_next(&self, grid: &Grid, index: u8, weight: u32, number: u32) -> Result<Placed, Stop> {
-        let on = number.checked_sub(self.first).ok_or(Stop::WrongNumber)?;
-        let place = on.checked_div(weight).ok_or(Stop::WrongNumber)?;
+    fn and_next(
+        &self,
+        grid: &PatternGrid,
+        index: u8,
+        weight: u32,
+        number: u32,
+    ) -> Result<Placed, Unmade> {
+        let on = number.checked_sub(self.first).ok_or(Unmade::WrongNumber)?;
+        let place = on.checked_div(weight).ok_or(Unmade::WrongNumber)?;
         let cell = cell_at(grid.all & !self.set, place)?;
         let order = self.next_order(index, cell);
         Ok(Placed {
             first: number - on % weight,
             set: with(self.set, cell),
-            order: u16::try_from(order).ok().ok_or(Stop::WrongNumber)?,
+            order: u16::try_from(order).ok().ok_or(Unmade::WrongNumber)?,
         })
     }
 

@@ -105,6 +105,7 @@ impl FoldedTable {
         ensures count { FoldedTableSays self.now.tiles board.now result }
         ensures few { (d : ℕ) → result ≡ Finite d → d ≤ greatest_count }
     {
+        // Asked only for what its contract says.
         let _side = board.side();
         self.look_in(&board.cells_of_all())
     }

@@ -75,6 +75,7 @@ impl<'a> CheckedTable<'a> {
         ensures table { result ≡ view.entry }
         ensures exact { IsExactTable result }
     {
+        // Asked only for what its contract says.
         let _pattern = view.pattern();
         CheckedTable { view, slots: None }
     }

@@ -26,6 +26,7 @@ fn beside(side: Side, cell: u8) -> u32
     requires { cell < side * side }
     ensures { IsMaskOf result (Adjacent side cell) }
 {
+    // Asked only for what its contract says.
     let _n = side.get();
     let up = with_step(0, side, cell, Move::Up);
     let down = with_step(up, side, cell, Move::Down);

@@ -182,6 +182,7 @@ fn first_bad_of_kinds(
         (RunKeepsRule table.now run.now.cells.now places.start places.end)
         (IsFirstBadPlace table.now run.now.cells.now places.start places.end) }
 {
+    // Asked only for what its contract says.
     let _pattern = table.pattern();
     let RunKinds { told, before, goal } = *kinds;
     if goal < before || goal - before >= told.len() as u64 {

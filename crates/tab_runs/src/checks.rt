@@ -30,6 +30,7 @@ pub(crate) fn first_bad(
         (RunKeepsRule table.now run.now.cells.now places.start places.end)
         (IsFirstBadPlace table.now run.now.cells.now places.start places.end) }
 {
+    // Asked only for what its contract says.
     let _pattern = table.pattern();
     let low = places.start;
     let high = places.end;

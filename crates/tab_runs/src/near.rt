@@ -45,6 +45,7 @@ fn take_tile(
     ensures { OnTrue result
         (IsTakenIn mins.old mins.new (IsTileStep table.now run.now.cells.now index to)) }
 {
+    // Asked only for what its contract says.
     let _pattern = table.pattern();
     let rows = run.row_table;
     let from = run.cells[index];

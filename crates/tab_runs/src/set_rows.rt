@@ -160,6 +160,7 @@ pub(crate) fn push_set(
     requires kept { AreKeptSets (rows_for pattern.now) kept.old }
     ensures { OnOk result (AreKeptSets (rows_for pattern.now) kept.new) }
 {
+    // Asked only for what its contract says.
     let _pattern = pattern.side();
     let mut cells = ArrayVec::new();
     put_numbers(set, &mut cells);

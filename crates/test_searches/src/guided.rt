@@ -5,7 +5,7 @@ ghost use Rattle.std.specs.Prelude.{◌≡◌, IfOk};
 use crate::small_searches::{bundle, moves, with_two_exchanged};
 use move_strings::Automaton;
 use puz_board::{Board, Move, Side};
-use puz_search::{Answer, Deepened, Guide, refute, shortest};
+use puz_search::{Deepened, Guide, SearchAnswer, refute, shortest};
 use set_sum::Bundle;
 use std::alloc::{AllocError, Global};
 use std::process::Abort;
@@ -118,8 +118,8 @@ fn refuted<R: Abort>(rt: &R, led: Led<'_>, board: &Board, bound: u8) -> u64 {
         bound,
         u64::MAX,
     ) {
-        Answer::Refuted(boards) => boards,
-        Answer::Solved(_) | Answer::Spent => panic!(rt; "refuted"),
+        SearchAnswer::Refuted(boards) => boards,
+        SearchAnswer::Solved(_) | SearchAnswer::Spent => panic!(rt; "refuted"),
     }
 }
 

@@ -3,7 +3,7 @@
 use crate::guided::reversals;
 use crate::small_searches::{Told, bundle, searched};
 use puz_board::Board;
-use puz_search::{Answer, Guide, refute_by};
+use puz_search::{Guide, SearchAnswer, refute_by};
 use set_sum::Bundle;
 use std::process::Abort;
 use std::sync::Wait;
@@ -40,9 +40,9 @@ fn refuted<R: Threads + Wait + Sync + AllocGlobal + Abort>(
         Err(_) => refute_by(&guide, &board, BOUND, budget, &workers).expect(rt, "memory"),
     };
     match answer {
-        Answer::Refuted(boards) => Some(boards),
-        Answer::Solved(_) => panic!(rt; "no solution has so few moves"),
-        Answer::Spent => None,
+        SearchAnswer::Refuted(boards) => Some(boards),
+        SearchAnswer::Solved(_) => panic!(rt; "no solution has so few moves"),
+        SearchAnswer::Spent => None,
     }
 }
 

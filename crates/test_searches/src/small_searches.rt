@@ -3,7 +3,9 @@
 use crate::guided::reversals;
 use arrayvec::ArrayVec;
 use puz_board::{Board, replay};
-use puz_search::{Answer, Deepened, Guide, Letters, refute, refute_by, shortest, shortest_by};
+use puz_search::{
+    Deepened, Guide, Letters, SearchAnswer, refute, refute_by, shortest, shortest_by,
+};
 use set_sum::{Bundle, Part};
 use std::process::Abort;
 use std::sync::Wait;
@@ -47,11 +49,11 @@ pub(crate) enum Told {
 }
 
 /// What a search of a board told. The letters of a solution are to solve the board.
-pub(crate) fn tell<R: Abort>(rt: &R, board: &Board, answer: Answer) -> Told {
+pub(crate) fn tell<R: Abort>(rt: &R, board: &Board, answer: SearchAnswer) -> Told {
     match answer {
-        Answer::Refuted(boards) => Told::Refuted(boards),
-        Answer::Solved(letters) => Told::Solved(moves(rt, board, &letters)),
-        Answer::Spent => Told::Spent,
+        SearchAnswer::Refuted(boards) => Told::Refuted(boards),
+        SearchAnswer::Solved(letters) => Told::Solved(moves(rt, board, &letters)),
+        SearchAnswer::Spent => Told::Spent,
     }
 }
 

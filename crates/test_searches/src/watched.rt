@@ -4,7 +4,7 @@ use crate::guided::reversals;
 use crate::small_searches::bundle;
 use move_strings::Automaton;
 use puz_board::Board;
-use puz_search::{Answer, Deepened, Guide, refute_by, shortest_by};
+use puz_search::{Deepened, Guide, SearchAnswer, refute_by, shortest_by};
 use set_sum::Bundle;
 use std::process::Abort;
 use std::sync::atomic::{AtomicU64, Ordering};
@@ -55,7 +55,7 @@ fn watch<R: Threads + Sync + AllocGlobal + Abort>(
     let guide = Guide::new(bundle, automaton);
     let counts = Counts::new();
     let workers = Workers::new(rt, rt.alloc(), 2, &counts);
-    let Ok(Answer::Refuted(boards)) = refute_by(&guide, &board, 6, 100, &workers) else {
+    let Ok(SearchAnswer::Refuted(boards)) = refute_by(&guide, &board, 6, 100, &workers) else {
         panic!(rt; "refuted");
     };
     assert_eq!(rt; counts.searches.load(Ordering::SeqCst), 1);

@@ -56,7 +56,7 @@ pub fn run_jobs_by<R: Threads + Wait, J: Job + Sync, G: Gate + Sync>(
                 AreDone (J.bad job.entry.now) (J.begins job.entry.now) (J.jobs job.entry.now)
                 passes.items done.items) }
         {
-            let task = Task {
+            let task = Shared {
                 job,
                 book: shared,
                 gate,
@@ -69,7 +69,7 @@ pub fn run_jobs_by<R: Threads + Wait, J: Job + Sync, G: Gate + Sync>(
 
 /// What workers share: their jobs, the book from which these are drawn, and the gate.
 #[derive(Drop)]
-struct Task<'s, J, G> {
+struct Shared<'s, J, G> {
     job: &'s J,
     book: &'s Book,
     gate: &'s G,
@@ -80,7 +80,7 @@ struct Task<'s, J, G> {
 fn work_all<'s, E, R: Threads, J: Job + Sync, G: Gate + Sync>(
     rt: &R,
     scope: &Scope<'s, E>,
-    task: &Task<'s, J, G>,
+    task: &Shared<'s, J, G>,
     mut passes: Vec<Pass>,
 ) -> Result<Vec<Pass>, Memory>
     requires jobs { task.now.book.now.sizes.jobs ≡ J.jobs task.now.job.now }

@@ -4,9 +4,9 @@ use Rattle.puz_board.proofs.MovedLemmas.{IsBoardOf-moved}
 use Rattle.set_sum.specs.Steps.{IsStepFrom}
 use Rattle.set_sum.specs.ShownSums.{ShownSums}
 use Rattle.log_check.specs.Nodes.{BeginsWith, BeginsWithNone}
-use Rattle.log_check.specs.Reached.{waiting_of}
+use Rattle.log_check.specs.PendingBoard.{waiting_of}
 use Rattle.log_check.specs.Walks.{AreNeverPending, AreWalked, MayHave, Waiting, all_moves, with_child, with_children, with_node}
-use Rattle.log_check.specs.declared.nodes.Node.TheVariants.{Branch}
+use Rattle.log_check.specs.declared.nodes.TreeNode.TheVariants.{Branch}
 use Rattle.log_check.proofs.BehindLemmas.{none_as, none_so, refused_as, refused_children, refused_node, refused_none, some_as, walked_as, walked_node}
 use Rattle.log_check.proofs.BehindLemmas.{walked_none, with_child-off, with_child-there}
 use Rattle.log_check.proofs.NodeLemmas.{BeginsWith-same, with_node-other}

@@ -1,7 +1,7 @@
 use Rattle.std.proofs.Common.{◌≡◌, subst, arith}
 use Rattle.puz_board.specs.Boards.{IsBoardOf}
 use Rattle.puz_search.specs.Answers.{IsAnswer}
-use Rattle.puz_search.specs.declared.answers.Answer.TheVariants.{Refuted}
+use Rattle.puz_search.specs.declared.answers.SearchAnswer.TheVariants.{Refuted}
 use Rattle.puz_search.specs.declared.searches.Search.{Search}
 use Rattle.puz_search.proofs.AnswerLemmas.{IsWhole, all_answer, all_within, if_ok}
 use Rattle.puz_search.proofs.sharing.refute_by.Goals as goal

@@ -1,7 +1,7 @@
 use Rattle.std.proofs.Common.{◌≡◌, subst, arith}
 use Rattle.puz_board.specs.Boards.{IsBoardOf}
 use Rattle.puz_search.specs.Answers.{IsAnswerOfPart}
-use Rattle.puz_search.specs.declared.answers.Answer.TheVariants.{Refuted}
+use Rattle.puz_search.specs.declared.answers.SearchAnswer.TheVariants.{Refuted}
 use Rattle.puz_search.specs.declared.searches.Search.{Search}
 use Rattle.puz_search.proofs.AnswerLemmas.{IsWhole, part_answer, part_within, if_ok}
 use Rattle.puz_search.proofs.sharing.refute_part_by.Goals as goal
