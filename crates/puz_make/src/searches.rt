@@ -138,7 +138,7 @@ fn search<G: Gate>(
         if threshold < bound {
             continue;
         }
-        if searcher.is_solved(&mut levels, threshold + BETWEEN_THRESHOLDS)? {
+        if searcher.search_threshold(&mut levels, threshold + BETWEEN_THRESHOLDS)? {
             return searcher.found(alloc, board, threshold as u8, &mut levels);
         }
         bound = threshold + BETWEEN_THRESHOLDS;
@@ -222,7 +222,7 @@ impl<'a, 'g, G: Gate> Searcher<'a, 'g, G> {
         self.budget.begin_anew(u64::MAX);
         self.tree.most = self.limits.tree;
         self.tree.clear();
-        let _ = self.is_solved(levels, u16::from(bound))?;
+        let _ = self.search_threshold(levels, u16::from(bound))?;
         self.begin_again();
         match self.failed.lack() {
             None => Ok(()),
@@ -230,15 +230,15 @@ impl<'a, 'g, G: Gate> Searcher<'a, 'g, G> {
         }
     }
 
-    /// Whether the first board has a solution of fewer moves than remain. Where it has none, the tree that refutes it is
-    /// written, and otherwise the letters of its moves.
-    fn is_solved(&mut self, levels: &mut [Children], remaining: u16) -> Result<bool, MakeFault>
+    /// Searches the first board for a solution of fewer moves than remain, and answers whether it has one. Where it has none,
+    /// the tree that refutes it is written, and otherwise the letters of its moves.
+    fn search_threshold(&mut self, levels: &mut [Children], remaining: u16) -> Result<bool, MakeFault>
         ensures fault { IfErr result IsSearchStop }
         ensures spent { IsErrOf result K1 → self.new.budget ≡ 0 }
     {
         self.budget.begin_search(remaining);
         let leaf = self.position.best_leaf();
-        if self.is_cut(&leaf, remaining) {
+        if self.cut_off(&leaf, remaining) {
             return Ok(false);
         }
         if leaf.raised == 0 && self.position.is_goal() {
@@ -252,7 +252,7 @@ impl<'a, 'g, G: Gate> Searcher<'a, 'g, G> {
 
     /// Writes a branch, and counts it.
     #[inline]
-    fn count(&mut self) -> Result<(), MakeFault>
+    fn begin_branch(&mut self) -> Result<(), MakeFault>
         ensures fault { IfErr result IsSearchStop }
         ensures spent { OnErr result ((self.old.budget ≡ 0) × (self.new.budget ≡ 0)) }
         ensures counted { OnOk result (self.new.budget + 1 ≡ self.old.budget) }
@@ -262,9 +262,9 @@ impl<'a, 'g, G: Gate> Searcher<'a, 'g, G> {
         Ok(())
     }
 
-    /// Whether a leaf cuts a board off, from which so many moves are to be refuted. It is then written.
+    /// Writes a leaf, where it cuts a board off from which so many moves are to be refuted. Answers whether it does.
     #[inline]
-    fn is_cut(&mut self, leaf: &Leaf, remaining: u16) -> bool
+    fn cut_off(&mut self, leaf: &Leaf, remaining: u16) -> bool
         ensures { OnFalse result (0 < remaining) }
     {
         if leaf.raised < remaining {
@@ -287,7 +287,7 @@ impl<'a, 'g, G: Gate> Searcher<'a, 'g, G> {
         ensures fault { IfErr result IsSearchStop }
         ensures spent { IsErrOf result K1 → self.new.budget ≡ 0 }
     {
-        self.count()?;
+        self.begin_branch()?;
         let Some((children, below)) = levels.split_first_mut() else {
             return Err(MakeFault::Wrong);
         };
@@ -298,7 +298,7 @@ impl<'a, 'g, G: Gate> Searcher<'a, 'g, G> {
                 break;
             }
             let leaf = children.leaves[at];
-            if self.is_cut(&leaf, remaining) {
+            if self.cut_off(&leaf, remaining) {
                 continue;
             }
             let Some(way) = self.position.way(list, at) else {

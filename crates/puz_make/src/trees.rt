@@ -4,7 +4,7 @@ use crate::cells::{CELLS, Cell};
 use crate::keys::Tiles;
 use crate::positions::steps_of;
 use log_file::tree_bytes::BRANCH;
-use puz_board::Board;
+use puz_board::{Board, MOVES};
 use std::alloc::{AllocError, Global};
 
 /// The byte of a branch with a long subtree. No log has it.
@@ -13,9 +13,6 @@ const LONG: u8 = 0xFF;
 /// The byte of a branch with a long subtree whose board comes here for the first time, or from here on refutes more than
 /// before. No log has it.
 const FIRST: u8 = 0xFE;
-
-/// How many moves a branch has, with those that leave the board.
-const MOVES: usize = 4;
 
 /// A tree that refutes so many moves from a board: no solution has fewer.
 #[derive(Drop)]
@@ -101,7 +98,7 @@ impl TreeWalk {
         let Some(branch) = self.branches.last_mut() else {
             return Ok(TreeStep::End);
         };
-        if branch.tried >= MOVES {
+        if branch.tried >= MOVES.len() {
             return Ok(TreeStep::Done);
         }
         let to = self.steps[branch.blank.place()][branch.tried];

@@ -190,7 +190,7 @@ impl<'a> Writer<'a> {
             self.open(Plan::Shared(first), is_open)?;
             return Ok(());
         }
-        if self.is_open() && self.is_cut(&first, cost)? {
+        if self.is_open() && self.try_cut(&first, cost)? {
             return Ok(());
         }
         Ok(self.open_inline()?)
@@ -198,7 +198,7 @@ impl<'a> Writer<'a> {
 
     /// Cuts the first branch of a board off, where that doesn't add too much to the log. Answers whether it does. The branch
     /// then begins.
-    fn is_cut(&mut self, first: &First, cost: usize) -> Result<bool, MakeFault> {
+    fn try_cut(&mut self, first: &First, cost: usize) -> Result<bool, MakeFault> {
         let Some(most) = self.cuts.most_node(first, cost) else {
             return Ok(false);
         };
@@ -239,7 +239,7 @@ impl<'a> Writer<'a> {
             && match open.plan {
                 Plan::Inline => false,
                 Plan::Cut => true,
-                Plan::Shared(first) => self.is_shared(&open, &first)?,
+                Plan::Shared(first) => self.try_share(&open, &first)?,
             };
         if is_lemma {
             self.make_lemma(&open)?;
@@ -248,8 +248,8 @@ impl<'a> Writer<'a> {
         Ok(())
     }
 
-    /// Whether a lemma of the branch makes the log shorter. There is then a tree for the reverse move.
-    fn is_shared(&mut self, open: &Open, first: &First) -> Result<bool, MakeFault> {
+    /// Writes a tree for the reverse move, where a lemma of the branch makes the log shorter. Answers whether it does.
+    fn try_share(&mut self, open: &Open, first: &First) -> Result<bool, MakeFault> {
         let size = self.bytes.len().saturating_sub(open.start);
         let saved = first.saved(size);
         let cost = self.lemmas.cost();

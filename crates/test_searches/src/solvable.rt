@@ -3,7 +3,7 @@
 use crate::boards::BOARDS_OF_SIDE_2;
 use crate::bundles::bundle;
 use crate::finding::{PLENTY, board_of, built, found};
-use puz_board::{Board, Move};
+use puz_board::{Board, MOVES};
 use puz_make::{MakeFault, solve};
 use set_sum::Bundle;
 use std::alloc::{AllocError, Global};
@@ -12,9 +12,6 @@ use std::sync::Wait;
 use std::test::Fail;
 use std::thread::Threads;
 use test_samples::files::TILE_1;
-
-/// The moves that a walk takes.
-const MOVES: [Move; 4] = [Move::Up, Move::Down, Move::Left, Move::Right];
 
 /// The numbers of a linear congruential generator (Knuth's MMIX).
 #[derive(Drop)]
