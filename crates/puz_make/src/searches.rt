@@ -232,7 +232,11 @@ impl<'a, 'g, G: Gate> Searcher<'a, 'g, G> {
 
     /// Searches the first board for a solution of fewer moves than remain, and answers whether it has one. Where it has none,
     /// the tree that refutes it is written, and otherwise the letters of its moves.
-    fn search_threshold(&mut self, levels: &mut [Children], remaining: u16) -> Result<bool, MakeFault>
+    fn search_threshold(
+        &mut self,
+        levels: &mut [Children],
+        remaining: u16,
+    ) -> Result<bool, MakeFault>
         ensures fault { IfErr result IsSearchStop }
         ensures spent { IsErrOf result K1 → self.new.budget ≡ 0 }
     {
