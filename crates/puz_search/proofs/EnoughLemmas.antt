@@ -11,7 +11,8 @@ use Rattle.set_sum.specs.Bundles.{IsBundle, ShownBundle}
 use Rattle.set_sum.proofs.SayLemmas.{at_least_bounds}
 use Rattle.move_strings.specs.Automata.{left_out, next_at, refuses}
 use Rattle.move_strings.proofs.ReplaceLemmas.{least}
-use Rattle.move_strings.proofs.TrailLemmas.{along, led_after}
+use Rattle.puz_board.proofs.PathLemmas.{led-board_after}
+use Rattle.move_strings.proofs.TrailLemmas.{along}
 use Rattle.puz_walk.specs.Walks.{IsCutOff}
 use Rattle.puz_search.specs.Guides.{IsGuide, ShownGuide}
 use Rattle.puz_search.specs.Searches.{leaves_out}
@@ -25,7 +26,7 @@ IsEnough steps state b r moves =
 pub cut_enough : (v : ShownBundle) (steps : List ℕ) (state : ℕ) (b : List ℕ) (r : ℕ) → IsCutOff v b r → IsBundle v → IsBoardOf v.side b
     → (moves : List Move) → IsEnough steps state b r moves
 cut_enough v steps state b r cut is good moves on end leads goal =
-    let way = led_after b end moves (subst (λ n. IsBoardOf n b) (sym (side_of-board v.side b good)) good) leads in
+    let way = led-board_after b end moves (subst (λ n. IsBoardOf n b) (sym (side_of-board v.side b good)) good) leads in
     let low : r ≤ length way.path = at_least_bounds v is true cut.0 b r good cut.1 way.path (way.walk, subst IsGoal (sym way.ends) goal) in
     let count = way.count in
     omega arith

@@ -11,7 +11,7 @@ use Rattle.set_sum.specs.Bundles.{ShownBundle, BundleSays, IsBundle}
 use Rattle.set_sum.specs.ShownSums.{ShownSums}
 use Rattle.set_sum.proofs.KnownLemmas.{stepped}
 use Rattle.set_sum.proofs.SlideLemmas.{moved_by, step_adjacent}
-use Rattle.set_sum.proofs.StillLemmas.{slid-back, slid-near}
+use Rattle.tab_rule.proofs.StillLemmas.{slid-back, slid-near}
 use Rattle.puz_walk.specs.Cuts.{GoesBeyond, margin_of}
 use Rattle.puz_walk.specs.StoredSumWalks.{IsStoredSumWalk, sum_walk_shown}
 use Rattle.puz_walk.specs.SumSteps.{IsSumStep}

@@ -21,7 +21,8 @@ use Rattle.set_sum.proofs.AnswerLemmas.{all_get}
 use Rattle.set_sum.proofs.AnyLemmas.{Any-here, Any-later}
 use Rattle.set_sum.proofs.KnownLemmas.{one_place}
 use Rattle.set_sum.proofs.MemberLemmas.{member_either, member_once}
-use Rattle.set_sum.proofs.StillLemmas.{at-back, member_still, slid-back, slid-near}
+use Rattle.tab_rule.proofs.StillLemmas.{at-back, slid-back, slid-near}
+use Rattle.set_sum.proofs.StillLemmas.{member_still}
 use Rattle.puz_walk.specs.Cuts.{GoesBeyond}
 use Rattle.puz_walk.specs.StoredWords.{AreOwnersOf, HasNoOwner, IsOwner, IsOwnerOf}
 use Rattle.puz_walk.specs.Tallies.{AreEntriesOf, AreTallied, IsLow, IsSlideOf, IsTold, entry_place}

@@ -21,7 +21,8 @@ use Rattle.set_sum.specs.Noting.{IsJoined}
 use Rattle.set_sum.specs.declared.known.Known.{Known}
 use Rattle.set_sum.specs.declared.known.PositionStep.{PositionStep}
 use Rattle.set_sum.proofs.KnownLemmas.{cells_after, known_before}
-use Rattle.set_sum.proofs.StillLemmas.{at-back, near_turned, slid-back, slid-near, tile_turned, turned}
+use Rattle.tab_rule.proofs.StillLemmas.{at-back, slid-back, slid-near}
+use Rattle.set_sum.proofs.StillLemmas.{near_turned, tile_turned, turned}
 
 -- ---- cells that are read
 

@@ -19,101 +19,27 @@ use Rattle.tab_rule.specs.Counts.{TableSays}
 use Rattle.tab_rule.specs.FoldedTables.{IsFoldedCost, FoldedTableSays, IsFoldedNever}
 use Rattle.tab_rule.specs.declared.tables.Count.{Count}
 use Rattle.tab_rule.specs.declared.tables.Count.TheVariants.{Finite, Never}
+use Rattle.tab_rule.proofs.StillLemmas.{at-back, blank_inside, count_still, slid-back, slid-near}
 use Rattle.set_sum.specs.Members.{MemberSays, table_of, table_pattern}
 use Rattle.set_sum.specs.Parts.{PartSays, ShownPart}
 use Rattle.set_sum.specs.Owners.{has_tile}
 use Rattle.set_sum.specs.declared.members.Member.{Member}
 
--- ---- a step, and the step back
+-- ---- what a table says
 
-module _ (n : ℕ) (b : List ℕ) (good : IsBoardOf n b) (c : ℕ) (near : Adjacent n (blank b) c) where
-  -- the blank's cell is on the board, whatever cell is adjacent to it
-  pub blank_inside : blank b < n * n
-  blank_inside = cell_of-below n b good 0 (let some = cells_least n b good in omega arith)
+module _ (n : ℕ) (b : List ℕ) (good : IsBoardOf n b) (c : ℕ) (near : Adjacent n (blank b) c) (tiles : List ℕ) (other : has tiles (at b c) ≡ false) where
+  folded_still : AreTiles n tiles → (count : Count) → FoldedTableSays tiles b count → FoldedTableSays tiles (slid b c) count
+  folded_still all (Finite d) is =
+      subst (λ k. IsFoldedCost k tiles (placement_of tiles (slid b c)) d) (sym (side_of-slid n b good c near.0))
+      (subst (λ cells. IsFoldedCost (side_of b) tiles cells d) (sym (placement_of-slid_other n b good c near.0 tiles all other)) is)
+  folded_still all Never is =
+      subst (λ k. IsFoldedNever k tiles (placement_of tiles (slid b c))) (sym (side_of-slid n b good c near.0))
+      (subst (λ cells. IsFoldedNever (side_of b) tiles cells) (sym (placement_of-slid_other n b good c near.0 tiles all other)) is)
 
-  on : IsBoardOf n (slid b c)
-  on = IsBoardOf-slid n b good c near.0
-
-  on_side : side_of (slid b c) ≡ n
-  on_side = side_of-board n (slid b c) on
-
-  on_blank : blank (slid b c) ≡ c
-  on_blank = blank-slid n b good c near.0
-
-  step_back : step_of n c (reverse_of near.1) ≡ Some (blank b)
-  step_back = reverse_of-takes_back near.1 n (blank b) c good.low good.high blank_inside near.2
-
-  near_back : Adjacent n c (blank b)
-  near_back = (blank_inside, reverse_of near.1, step_back)
-
-  -- the step back is one of the board after the step
-  pub slid-near : Adjacent n (blank (slid b c)) (blank b)
-  slid-near = subst (λ z. Adjacent n z (blank b)) (sym on_blank) near_back
-
-  -- it leads back
-  pub slid-back : slid (slid b c) (blank b) ≡ b
-  slid-back =
-      let there : moved b near.1 ≡ Some (slid b c) =
-      ap (λ side. option_map (slid b) (step_of side (blank b) near.1)) (side_of-board n b good) ∙ ap (option_map (slid b)) near.2 in
-      let leads : moved (slid b c) (reverse_of near.1) ≡ Some b = moved-reverse_of n b good near.1 (slid b c) there in
-      let also : moved (slid b c) (reverse_of near.1) ≡ Some (slid (slid b c) (blank b)) =
-      ap (λ side. option_map (slid (slid b c)) (step_of side (blank (slid b c)) (reverse_of near.1))) on_side ∙
-      ap (λ z. option_map (slid (slid b c)) (step_of n z (reverse_of near.1))) on_blank ∙
-      ap (option_map (slid (slid b c))) step_back in
-      let same : Some (slid (slid b c) (blank b)) ≡ Some b = sym also ∙ leads in
-      cc
-
-  -- of the same tile
-  pub at-back : at (slid b c) (blank b) ≡ at b c
-  at-back = at-slid_back n b good c near.0 (Adjacent-apart n (blank b) c good.low near)
-
-  -- ---- paths home
-
-  module _ (tiles : List ℕ) (other : has tiles (at b c) ≡ false) where
-    lead_on : (path : List ℕ) → LeadsHome tiles (slid b c) path → LeadsHome tiles b (c ∷ path)
-    lead_on path leads =
-        let walk : IsPath n c path = subst (λ z. IsPath n z path) on_blank (subst (λ k. IsPath k (blank (slid b c)) path) on_side leads.walk) in
-        record { walk = subst (λ k. IsPath k (blank b) (c ∷ path)) (sym (side_of-board n b good)) (near, walk); ends = leads.ends }
-
-    lead_back : (path : List ℕ) → LeadsHome tiles b path → LeadsHome tiles (slid b c) (blank b ∷ path)
-    lead_back path leads =
-        let walk : IsPath n (blank b) path = subst (λ k. IsPath k (blank b) path) (side_of-board n b good) leads.walk in
-        record {
-          walk = subst (λ k. IsPath k (blank (slid b c)) (blank b ∷ path)) (sym on_side) (slid-near, walk);
-          ends = subst (λ x. IsHome tiles (after x path)) (sym slid-back) leads.ends;
-        }
-
-    cost_on : (path : List ℕ) → cost tiles b (c ∷ path) ≡ cost tiles (slid b c) path
-    cost_on path = ap (λ h. cond h 1 0 + cost tiles (slid b c) path) other ∙ zero-add (cost tiles (slid b c) path)
-
-    cost_back : (path : List ℕ) → cost tiles (slid b c) (blank b ∷ path) ≡ cost tiles b path
-    cost_back path =
-        ap (λ h. cond h 1 0 + cost tiles (slid (slid b c) (blank b)) path) (ap (has tiles) at-back ∙ other) ∙
-        zero-add (cost tiles (slid (slid b c) (blank b)) path) ∙ ap (λ x. cost tiles x path) slid-back
-
-    -- ---- what a table says
-
-    count_still : (count : Count) → TableSays tiles b count → TableSays tiles (slid b c) count
-    count_still (Finite d) is = record {
-      path = blank b ∷ is.path;
-      leads = lead_back is.path is.leads;
-      costs = cost_back is.path ∙ is.costs;
-      least = λ path leads. subst (λ k. d ≤ k) (cost_on path) (is.least (c ∷ path) (lead_on path leads));
-    }
-    count_still Never never = λ path leads. never (c ∷ path) (lead_on path leads)
-
-    folded_still : AreTiles n tiles → (count : Count) → FoldedTableSays tiles b count → FoldedTableSays tiles (slid b c) count
-    folded_still all (Finite d) is =
-        subst (λ k. IsFoldedCost k tiles (placement_of tiles (slid b c)) d) (sym (side_of-slid n b good c near.0))
-        (subst (λ cells. IsFoldedCost (side_of b) tiles cells d) (sym (placement_of-slid_other n b good c near.0 tiles all other)) is)
-    folded_still all Never is =
-        subst (λ k. IsFoldedNever k tiles (placement_of tiles (slid b c))) (sym (side_of-slid n b good c near.0))
-        (subst (λ cells. IsFoldedNever (side_of b) tiles cells) (sym (placement_of-slid_other n b good c near.0 tiles all other)) is)
-
-    tells_still : AreTiles n tiles → (is_folded : Bool) (count : Count) → MatchBool is_folded (FoldedTableSays tiles b count) (TableSays tiles b count)
-        → MatchBool is_folded (FoldedTableSays tiles (slid b c) count) (TableSays tiles (slid b c) count)
-    tells_still all true count is = folded_still all count is
-    tells_still all false count is = count_still count is
+  tells_still : AreTiles n tiles → (is_folded : Bool) (count : Count) → MatchBool is_folded (FoldedTableSays tiles b count) (TableSays tiles b count)
+      → MatchBool is_folded (FoldedTableSays tiles (slid b c) count) (TableSays tiles (slid b c) count)
+  tells_still all true count is = folded_still all count is
+  tells_still all false count is = count_still n b good c near tiles other count is
 
 -- ---- what a member says
 

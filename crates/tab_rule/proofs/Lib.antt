@@ -16,6 +16,7 @@ pub mod OneResultLemmas
 pub mod RegionLemmas
 mod RuleLemmas
 mod StepLemmas
+pub mod StillLemmas
 pub mod TableLemmas
 pub mod ValueLemmas
 mod Values

@@ -4,7 +4,8 @@ use Rattle.puz_board.specs.Paths.{Leads}
 use Rattle.puz_board.proofs.BoardLemmas.{side_of-board}
 use Rattle.move_strings.specs.Automata.{refuses}
 use Rattle.move_strings.proofs.ReplaceLemmas.{least}
-use Rattle.move_strings.proofs.TrailLemmas.{along, led_after}
+use Rattle.puz_board.proofs.PathLemmas.{led-board_after}
+use Rattle.move_strings.proofs.TrailLemmas.{along}
 use Rattle.move_strings.proofs.laws.automata_keep_a_solution.Goals as goal
 
 refused_or : (t : Bool) → (t ≡ true) ⊎ (t ≡ false)
@@ -22,7 +23,7 @@ returns c a is b good r path solves short =
       | inr on ↦ inr on
     ])
     first.moves first.leads (omega arith) in
-    let way = led_after b first.end best.moves (subst (λ k. IsBoardOf k b) (sym side) good) best.leads in
+    let way = led-board_after b first.end best.moves (subst (λ k. IsBoardOf k b) (sym side) good) best.leads in
     let count = way.count in
     let few = best.few in
     let as_long = first.count in
