@@ -12,7 +12,10 @@ use crate::searches::Search;
 use puz_board::Move;
 use std::alloc::{AllocError, Global};
 
-/// So many nodes are enough jobs for all workers.
+/// So many nodes for each worker are enough jobs.
+const NODES_A_WORKER: usize = 512;
+
+/// So many are enough for all.
 const MANY_NODES: usize = 4_096;
 
 /// The most moves that lead to a node.
@@ -25,15 +28,20 @@ pub(crate) struct Frontier {
     pub(crate) expanded: u64,
 }
 
-/// The frontier of a search. The nodes are expanded level by level, until they are many.
-pub(crate) fn frontier_of(task: &Search<'_>, alloc: Global) -> Result<Frontier, AllocError>
+/// The frontier of a search that so many workers share. The nodes are expanded level by level, until there are enough of them.
+pub(crate) fn frontier_of(
+    task: &Search<'_>,
+    workers: u8,
+    alloc: Global,
+) -> Result<Frontier, AllocError>
     ensures { IfOk result (IsFrontier task.now) }
 {
+    let enough = MANY_NODES.min(NODES_A_WORKER * usize::from(workers));
     let mut nodes = Vec::new(alloc);
     nodes.push(task.first())?;
     let mut expanded = 0;
     for _ in 0..MOST_LEVELS {
-        if MANY_NODES <= nodes.len() {
+        if enough <= nodes.len() {
             return Ok(Frontier { nodes, expanded });
         }
         let next = next_level(task, nodes, alloc)?;

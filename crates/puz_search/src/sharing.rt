@@ -127,7 +127,7 @@ fn search_frontier<R: Threads + Sync, G: Gate + Sync>(
     ensures { IfOk result (IsPartAnswer (search_fails task.now) (most_boards task.now.bound)
         (solves_first task.now) budget) }
 {
-    let frontier = frontier_of(task, workers.alloc)?;
+    let frontier = frontier_of(task, workers.count, workers.alloc)?;
     workers.gate.expanded(frontier.expanded);
     let Some(left) = budget.checked_sub(frontier.expanded) else {
         return Ok(SearchAnswer::Spent);

@@ -1,7 +1,11 @@
 -- Sums that a move changes, set by set.
-use Rattle.std.proofs.Common.{◌≡◌, ◌≢◌, ℕ, ◌+◌, ◌^◌, ◌<◌, ◌≤◌, ◌&&◌, Bool, true, false, List, length, slice_index, slice_set, Option, Some, None, inl, inr}
+use Rattle.std.proofs.Common.{◌≡◌, ◌≢◌, ℕ, ◌+◌, ◌*◌, ◌%◌, ◌^◌, ◌<◌, ◌≤◌, ◌&&◌, Bool, true, false, if◌then◌else◌}
+use Rattle.std.proofs.Common.{List, length, slice_index, slice_set, Option, Some, None, inl, inr}
 use Rattle.std.proofs.Common.{refl, sym, ◌∙◌, ap, subst, arith, get_or-set_same, get_or-set_other, length-set}
-use Rattle.std.specs.Int.{bit_at}
+use Rattle.std.specs.Int.{bit_at, from_bool, w32}
+use Rattle.std.specs.Int.Bits.{or_zero_r}
+use Rattle.std.specs.Prelude.{bit_or}
+use Rattle.std.proofs.lemmas.Nat.Bits.{bit_at_set_other, bit_at_set_same}
 use Rattle.std.proofs.lemmas.Bool.{cases_eq, true≢false}
 use Rattle.tab_rule.specs.declared.tables.Count.TheVariants.{Finite}
 use Rattle.set_sum.specs.Bundles.{ShownBundle, BundleSays, set_of}
@@ -10,6 +14,27 @@ use Rattle.puz_walk.specs.WordSpots.{AreKept, AreKeptOf, HasPlaces, IsKept, IsRo
 use Rattle.puz_walk.specs.WordSteps.{AreChanged, IsChangeOf}
 use Rattle.puz_walk.specs.declared.word_spots.Change.{Change}
 use Rattle.puz_walk.specs.declared.word_spots.Kept.{Kept}
+
+-- ---- a bit that is set where it is wanted
+
+with_none : (mask number bit : ℕ) → bit ≡ 0 → bit_or mask (bit * 2 ^ number % 2 ^ 32) ≡ mask
+with_none mask number bit is =
+    let none : 0 * 2 ^ number ≡ 0 = omega arith in
+    ap (λ b. bit_or mask (b * 2 ^ number % 2 ^ 32)) is ∙ ap (λ k. bit_or mask (k % 2 ^ 32)) none ∙ or_zero_r mask
+
+module _ (mask number : ℕ) (low : number < 32) where
+  -- a bit that is put into a mask by a bitwise or is set where it is wanted, and else stays clear
+  pub with_here : bit_at mask number ≡ 0 → (wanted : Bool) (bit : ℕ) → bit ≡ from_bool wanted
+      → bit_at (bit_or mask (bit * 2 ^ number % 2 ^ 32)) number ≡ (if wanted then 1 else 0)
+  with_here none true bit is = subst (λ b. bit_at (bit_or mask (b * 2 ^ number % 2 ^ 32)) number ≡ 1) (sym is) (bit_at_set_same w32 mask number low)
+  with_here none false bit is = ap (λ k. bit_at k number) (with_none mask number bit is) ∙ none
+
+  -- and each other bit stays as it was
+  pub with_other : (wanted : Bool) (bit : ℕ) → bit ≡ from_bool wanted → (x : ℕ) → x ≢ number
+      → bit_at (bit_or mask (bit * 2 ^ number % 2 ^ 32)) x ≡ bit_at mask x
+  with_other true bit is x ne =
+      subst (λ b. bit_at (bit_or mask (b * 2 ^ number % 2 ^ 32)) x ≡ bit_at mask x) (sym is) (bit_at_set_other w32 mask number low x ne)
+  with_other false bit is x ne = ap (λ k. bit_at k x) (with_none mask number bit is)
 
 -- a set has one sum
 pub sum_once : (v : ShownBundle) (set : ℕ) (b : List ℕ) (d e : ℕ) → BundleSays v set b (Finite d) → BundleSays v set b (Finite e) → d ≡ e

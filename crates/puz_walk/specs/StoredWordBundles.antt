@@ -1,4 +1,5 @@
 -- How a bundle with edge words is stored: what a walk reads for each set and tile, and where moves lead.
+use Rattle.std.specs.Prelude.{◌≡◌, length}
 use Rattle.set_sum.specs.Bundles.{IsBundle}
 use Rattle.puz_walk.specs.Seats.{AreSeatsOf}
 use Rattle.puz_walk.specs.StoredWords.{AreWaysOf}
@@ -9,5 +10,6 @@ use Rattle.puz_walk.specs.declared.word_bundles.WordBundle.TheInside.{Inside}
 pub record IsStoredWordBundle (w : Inside) : Type 0 where
   pub bundle : IsBundle w.bundle.now
   pub words : HaveWords w.bundle.now w.words.now
+  pub sets : w.sets ≡ length w.bundle.now.sets
   pub seats : AreSeatsOf w.bundle.now w.seats
   pub ways : AreWaysOf w.bundle.now.side w.ways

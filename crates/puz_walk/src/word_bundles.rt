@@ -31,6 +31,8 @@ const MOST_WORDED: usize = 8;
 pub struct WordBundle<'a> {
     pub(crate) bundle: &'a Bundle<'a>,
     pub(crate) words: &'a [Words],
+    /// How many sets there are.
+    sets: u8,
     /// For each set, tile and move what is read and changed when the move moves the tile.
     seats: [Seat; MOST_SEATS],
     /// For each cell and move the cell to which it leads.
@@ -63,6 +65,7 @@ impl<'a> WordBundle<'a> {
         Some(WordBundle {
             bundle,
             words,
+            sets: bundle.sets(),
             seats: all_seats(bundle, words),
             ways: all_ways(side),
         })
@@ -93,7 +96,7 @@ impl<'a> WordBundle<'a> {
         ensures bundle { IsBundle self.now }
         ensures few { length self.now.tables ≤ most_worded }
     {
-        self.bundle.sets()
+        self.sets
     }
 
     /// The cell to which a move leads, where the blank stays on the board.
@@ -133,7 +136,7 @@ impl<'a> WordBundle<'a> {
             → IsShift self.now b next set result }
     {
         let seat = self.seat(set, tile, mv);
-        if self.words.len() <= usize::from(seat.table) {
+        if MOST_WORDED <= usize::from(seat.table) {
             return None;
         }
         Some(raises(spot.kept.words[usize::from(seat.place)], seat.bit))

@@ -12,7 +12,7 @@ ghost use Rattle.puz_walk.specs.WordSteps.{AreChanged};
 
 use crate::cuts::sums_of;
 use crate::word_bundles::WordBundle;
-use puz_board::masks::{has_cell, with};
+use puz_board::masks::has_cell;
 use puz_board::{Board, Move};
 use set_sum::{MOST_SETS, Member};
 
@@ -146,7 +146,7 @@ fn with_if(mask: u32, number: u8, is_wanted: bool) -> u32
     ensures here { bit_at result number ≡ (if is_wanted then 1 else 0) }
     ensures others { (x : ℕ) → x ≢ number → bit_at result x ≡ bit_at mask x }
 {
-    if is_wanted { with(mask, number) } else { mask }
+    mask | u32::from(is_wanted) << number
 }
 
 /// Moves the blank to a cell beside its own, and the tile there into its own.
@@ -167,7 +167,7 @@ pub(crate) fn move_blank(bundle: &WordBundle<'_>, spot: &mut Spot, to: u8, mv: M
 }
 
 /// The sums, and what is kept of members, after a move of a tile.
-#[inline]
+#[inline(always)]
 fn follow_sets(bundle: &WordBundle<'_>, spot: &mut Spot, tile: u8, mv: Move, change: Change)
     requires { (b : List ℕ) × (next : List ℕ) × (from : ℕ) × (to : ℕ)
         × IsStepOf bundle.now.side mv b next tile from to

@@ -77,7 +77,9 @@ impl<'a> Walk for WordWalk<'a> {
 
     #[inline]
     fn is_goal(&self) -> bool {
-        is_in_order(&self.spot.numbers[..usize::from(self.bundle.side().cells())])
+        // Few boards have the blank in cell 0, as the goal board has.
+        self.spot.blank == 0
+            && is_in_order(&self.spot.numbers[..usize::from(self.bundle.side().cells())])
     }
 
     #[inline(always)]

@@ -1,24 +1,23 @@
 use Rattle.std.proofs.Common.{◌<◌, slice_index, inl, inr, sym, ◌∙◌, subst, arith}
 use Rattle.edge_words.specs.Spots.{IsWordOn}
-use Rattle.set_sum.specs.Bundles.{IsBundle}
 use Rattle.set_sum.specs.Members.{board_for}
 use Rattle.puz_walk.specs.StoredWords.{move_for}
-use Rattle.puz_walk.specs.WordBundles.{HaveWords, pattern_at}
+use Rattle.puz_walk.specs.WordBundles.{pattern_at}
 use Rattle.puz_walk.proofs.OwnerLemmas.{member_there, none_shifts, owner_bit_low, owner_moves, owner_shifts}
 use Rattle.puz_walk.proofs.word_bundles.WordBundle.raises.Goals as goal
 
 -- where the seat's table has no words, no member of the set has the tile, and its sum stays
-pub returns-then-self-from : goal.returns-then-self-from
-returns-then-self-from c b next from to step kept =
+pub returns-then-from-ge-MOST_WORDED : goal.returns-then-from-ge-MOST_WORDED
+returns-then-from-ge-MOST_WORDED c b next from to step kept =
     let v = c.args.self.now in
-    let words = c.self.inside.words.now in
-    let bundle = subst IsBundle c.self.view_is c.self.invariant.bundle in
-    let have = subst (λ u. HaveWords u words) c.self.view_is c.self.invariant.words in
+    let bundle = c.seat-seat.ensures.bundle in
+    let words = c.seat-seat.ensures.words.0 in
+    let have = c.seat-seat.ensures.words.1 in
     elim c.seat-seat.ensures.seat [
       | inl owned ↦
           let there = member_there v bundle c.args.set c.requires.set owned.owns.number owned.owner.member owned.owns.member in
-          let size = have.size in
-          let none = c.if-self-from.true in
+          let few = have.few in
+          let none = c.if-from-ge-MOST_WORDED.true in
           let table = c.from.ensures ∙ owned.is.table in
           absurd (omega arith)
       | inr free ↦ none_shifts v bundle words have c.args.set c.requires.set c.args.mv b next c.args.tile from to step free.none _
@@ -29,17 +28,15 @@ returns-then-self-from c b next from to step kept =
 pub raises-requires : goal.raises-requires
 raises-requires c =
     let v = c.args.self.now in
-    let words = c.self.inside.words.now in
-    let bundle = subst IsBundle c.self.view_is c.self.invariant.bundle in
-    let have = subst (λ u. HaveWords u words) c.self.view_is c.self.invariant.words in
+    let bundle = c.seat-seat.ensures.bundle in
+    let words = c.seat-seat.ensures.words.0 in
+    let have = c.seat-seat.ensures.words.1 in
     elim c.seat-seat.ensures.seat [
       | inl owned ↦ subst (λ k. k < 32) (sym owned.is.bit)
           (owner_bit_low v bundle words have c.args.set c.requires.set c.args.tile owned.owner owned.owns (move_for owned.owner.member c.args.mv))
       | inr free ↦
-          let few = have.few in
-          let size = have.size in
           let far = free.table in
-          let some = c.if-self-from.false in
+          let some = c.if-from-ge-MOST_WORDED.false in
           let table = c.from.ensures in
           absurd (omega arith)
     ]
@@ -48,9 +45,9 @@ raises-requires c =
 pub returns : goal.returns
 returns c b next from to step kept =
     let v = c.args.self.now in
-    let words = c.self.inside.words.now in
-    let bundle = subst IsBundle c.self.view_is c.self.invariant.bundle in
-    let have = subst (λ u. HaveWords u words) c.self.view_is c.self.invariant.words in
+    let bundle = c.seat-seat.ensures.bundle in
+    let words = c.seat-seat.ensures.words.0 in
+    let have = c.seat-seat.ensures.words.1 in
     elim c.seat-seat.ensures.seat [
       | inl owned ↦
           let m = owned.owner.member in
@@ -64,10 +61,8 @@ returns c b next from to step kept =
           (λ d least. c.raises.ensures p owned.owner.tile (move_for m c.args.mv) (board_for m b) (board_for m next) d moves owned.is.bit word least)
           _ (kept.each c.args.set c.requires.set).says
       | inr free ↦
-          let few = have.few in
-          let size = have.size in
           let far = free.table in
-          let some = c.if-self-from.false in
+          let some = c.if-from-ge-MOST_WORDED.false in
           let table = c.from.ensures in
           absurd (omega arith)
     ]
