@@ -1,7 +1,6 @@
 -- Words filled in run by run.
-use Rattle.std.proofs.Common.{◌≡◌, ◌≢◌, ℕ, zero, suc, ◌+◌, ◌-◌, ◌*◌, ◌/◌, ◌^◌, ◌<◌, ◌≤◌, ◌⊎◌, Bool, true, false, List, [], ◌∷◌, ◌++◌, length, drop}
+use Rattle.std.proofs.Common.{◌≡◌, ◌≢◌, ℕ, zero, suc, ◌+◌, ◌-◌, ◌*◌, ◌/◌, ◌^◌, ◌<◌, ◌≤◌, ◌⊎◌, List, [], ◌∷◌, ◌++◌, length, drop}
 use Rattle.std.proofs.Common.{take, get_or, set, inl, inr, refl, sym, ◌∙◌, ap, ap₂, subst, arith, get_or-set_same, get_or-set_other, length-set}
-use Rattle.std.specs.Bool.{OnTrue}
 use Rattle.std.specs.List.{AllByRecursion}
 use Rattle.std.specs.Prelude.{slice_index, slice_set}
 use Rattle.std.proofs.lemmas.Bool.{cases_eq, cases_lt}
@@ -14,7 +13,7 @@ use Rattle.tab_runs.specs.RunPlaces.{IsRun}
 use Rattle.tab_runs.specs.Runs.{with_last}
 use Rattle.tab_runs.proofs.RunAtLemmas.{apart_front, inside_front, same_last}
 use Rattle.edge_words.specs.Edges.{AreBefore}
-use Rattle.edge_words.specs.Fills.{AreAllTold, AreToldBelow, AreToldUpTo, IsFillable, IsFilled, IsSpan, place_in, run_count}
+use Rattle.edge_words.specs.Fills.{AreAllTold, AreToldBelow, AreToldUpTo, IsFillable, IsSpan, place_in, run_count}
 use Rattle.edge_words.specs.Indexes.{index_count, index_in}
 use Rattle.edge_words.specs.Words.{AreEdgeWords, IsEdgeWord}
 use Rattle.edge_words.specs.declared.fills.Span.{Span}
@@ -243,7 +242,8 @@ module _ (p : ShownPattern) where
       size = (let e = ap length whole ∙ length-append front back in let size = is.size in let both = sizes in omega arith);
     }
 
-    told_join : (front back : List ℕ) → AreAllTold p lower front → AreAllTold p upper back → AreAllTold p s (front ++ back)
+    -- where both halves are told, the whole span is
+    pub told_join : (front back : List ℕ) → AreAllTold p lower front → AreAllTold p upper back → AreAllTold p s (front ++ back)
     told_join front back one other = record {
       size = length-append front back ∙ (let a = one.size in let b = other.size in let both = sizes in omega arith);
       each = λ cells last run free begin end done. elim (cases_lt (index_in p cells) middle) [
@@ -263,13 +263,6 @@ module _ (p : ShownPattern) where
             (other.each cells last run free above end tt)
       ];
     }
-
-    -- all are told where both are
-    pub filled_join : (front back : List ℕ) (one other : Bool) → IsFilled p lower front one → IsFilled p upper back other → one ≡ true
-        → IsFilled p s (front ++ back) other
-    filled_join front back one true first second is_told =
-        record { told = told_join front back (subst (λ b. OnTrue b (AreAllTold p lower front)) is_told first.told) second.told; odd = tt }
-    filled_join front back one false first second is_told = record { told = tt; odd = second.odd }
 
   -- the words of all placements
   pub words_told : IsPattern p → (s : Span) → s.low ≡ 0 → s.high ≡ run_count p → (words : List ℕ) → AreAllTold p s words → AreEdgeWords p words

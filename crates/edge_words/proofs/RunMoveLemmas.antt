@@ -1,7 +1,7 @@
 -- Moves between the placements of runs.
-use Rattle.std.proofs.Common.{◌≡◌, ◌≢◌, ℕ, suc, ◌+◌, ◌-◌, ◌*◌, ◌/◌, ◌%◌, ◌^◌, ◌<◌, ◌≤◌, not, Bool, true, false, eqb, List, [], ◌∷◌}
-use Rattle.std.proofs.Common.{drop, length, take, Option, Some, inl, inr, sym, ◌∙◌, ap, ap₂, subst, arith}
-use Rattle.std.specs.Prelude.{MatchOption, slice_index, slice_set}
+use Rattle.std.proofs.Common.{◌≡◌, ◌≢◌, ◌↔◌, ℕ, suc, ◌+◌, ◌-◌, ◌*◌, ◌/◌, ◌%◌, ◌^◌, ◌<◌, ◌≤◌, not, Bool, true, false, IsTrue, eqb, List, [], ◌∷◌}
+use Rattle.std.proofs.Common.{drop, length, take, Some, inl, inr, sym, ◌∙◌, ap, ap₂, subst, arith}
+use Rattle.std.specs.Prelude.{slice_index, slice_set}
 use Rattle.std.proofs.lemmas.Bool.{cases_Bool, cases_eq, or_left}
 use Rattle.std.proofs.lemmas.List.{get_or-drop, get_or-take, get_or_append_left, get_or_at, set-append_left}
 use Rattle.std.proofs.lemmas.Nat.{mul-le}
@@ -14,24 +14,21 @@ use Rattle.puz_board.specs.Masks.{has_bit}
 use Rattle.puz_board.proofs.BoardWays.{Adjacent-apart}
 use Rattle.puz_board.proofs.CellLemmas.{reverse_of-takes_back, stays, step_of-inside}
 use Rattle.pat_place.specs.Patterns.{IsPattern, ShownPattern, has}
-use Rattle.pat_place.specs.Placements.{IsFree, IsPlacement}
+use Rattle.pat_place.specs.Placements.{IsFree}
 use Rattle.pat_place.proofs.ListLemmas.{Some-one, all_at}
 use Rattle.tab_runs.specs.Rows.{IsOpen, listed_below}
 use Rattle.tab_runs.specs.RunPlaces.{IsRun}
 use Rattle.tab_runs.specs.Runs.{with_last}
-use Rattle.tab_runs.proofs.RunLemmas.{free-with_last, has-with_last, open_free, open_moved, placed_last, run_moved, same_moved, with_last-free, with_last-here}
-use Rattle.edge_words.specs.Edges.{AreBefore, HasNoOrigin, IsNear, IsToldOf}
+use Rattle.tab_runs.proofs.RunLemmas.{has-with_last, open_moved, run_moved, same_moved, with_last-free, with_last-here}
+use Rattle.edge_words.specs.Edges.{AreBefore, HasNoOrigin, IsNear}
 use Rattle.edge_words.specs.Lookups.{HaveEntries, SaysOfAll, but_last}
-use Rattle.edge_words.specs.Words.{Differs, IsEdgeWord, TellsOfMove, move_of}
+use Rattle.edge_words.specs.Words.{IsEdgeWord, TellsOfMove, move_of}
 use Rattle.edge_words.specs.declared.edges.Near.{Near}
-use Rattle.edge_words.proofs.EdgeLemmas.{edge_told, no_origin_tells, odd_bit, odd_move, pick, told_back}
+use Rattle.edge_words.proofs.EdgeLemmas.{edge_tells, no_origin_tells, odd_bit, odd_move, pick, told_back}
 use Rattle.edge_words.proofs.IndexLemmas.{index_of-lower}
 use Rattle.edge_words.proofs.LookupLemmas.{free_below-same}
 
 module _ (p : ShownPattern) (pat : IsPattern p) (cells : List ℕ) (run : IsRun p cells) (last : ℕ) (free : IsFree p.side cells last) where
-  placed : IsPlacement (record { pattern = p; cells = with_last cells last })
-  placed = placed_last p cells last run free
-
   -- ---- a tile before the last one
 
   module _ (index : ℕ) (move : Move) (low : index < length cells) where
@@ -80,16 +77,14 @@ module _ (p : ShownPattern) (pat : IsPattern p) (cells : List ℕ) (run : IsRun 
           (same_moved cells index near.from low) last ∙
           ap₂ (λ xs c. listed_below xs c last) (sym is.moved) (sym is.to)
 
-      -- for a tile before the last one, the entries on both sides of its move give the bit, or an odd edge
-      pub front_told : near.from ≢ last → (before after : ℕ) → SaysOfAll p (with_last cells last) near.from before
+      -- for a tile before the last one, the entries on both sides of its move give the bit
+      pub front_told : (before after : ℕ) → SaysOfAll p (with_last cells last) near.from before
           → SaysOfAll p (with_last (but_last p near.run.cells) last) near.to after
-          → (o : Option Bool) → MatchOption o ((rises : Bool) → ¬ Differs rises before after) (λ rises. Differs rises before after)
-          → IsToldOf p (with_last cells last) index move o
-      front_told apart before after says also =
-          edge_told p pat (with_last cells last) index move near.from near.to before after to_is step says
+          → (rises : Bool) → (IsTrue rises ↔ (before < after)) → TellsOfMove p (with_last cells last) index move rises
+      front_told before after says also =
+          edge_tells p pat (with_last cells last) index move near.from near.to before after to_is step says
           (subst (λ xs. SaysOfAll p xs near.to after) (ap (λ xs. with_last xs last) is.moved
           ∙ sym (set-append_left cells (last ∷ []) index near.from low)) also)
-          placed (let e = run.size in omega arith) (free-with_last p.side cells last near.from is.free apart)
 
   -- ---- moves back
 
@@ -160,15 +155,13 @@ module _ (p : ShownPattern) (pat : IsPattern p) (cells : List ℕ) (run : IsRun 
       pub last_after : IsOpen p.side cells last from
       last_after = record { last = open_cell; cell = free; other = apart }
 
-      -- for the last tile, the entries on both sides of its move give the bit, or an odd edge
+      -- for the last tile, the entries on both sides of its move give the bit
       pub last_told : (before after : ℕ) → SaysOfAll p (with_last cells last) from before → SaysOfAll p (with_last cells from) last after
-          → (o : Option Bool) → MatchOption o ((rises : Bool) → ¬ Differs rises before after) (λ rises. Differs rises before after)
-          → IsToldOf p (with_last cells last) (length p.tiles - 1) move o
+          → (rises : Bool) → (IsTrue rises ↔ (before < after)) → TellsOfMove p (with_last cells last) (length p.tiles - 1) move rises
       last_told before after says also =
-          edge_told p pat (with_last cells last) (length p.tiles - 1) move from last before after (sym at_last) step says
+          edge_tells p pat (with_last cells last) (length p.tiles - 1) move from last before after (sym at_last) step says
           (subst (λ xs. SaysOfAll p xs last after) (sym (ap (λ k. slice_set (with_last cells last) k from) (sym here)
           ∙ set-append_seam cells last [] from)) also)
-          placed (let e = run.size in omega arith) (open_free p.side cells from last last_before)
 
 -- ---- moves to lower cells
 

@@ -1,5 +1,5 @@
 -- Moves of tiles between the placements of runs.
-use Rattle.std.specs.Prelude.{◌≡◌, ◌≢◌, ◌↔◌, ℕ, ◌+◌, ◌-◌, ◌*◌, ◌/◌, ◌%◌, ◌<◌, ◌≤◌, not, true, false, Bool, List, MatchOption, Option, Some, length, slice_index, slice_set}
+use Rattle.std.specs.Prelude.{◌≡◌, ◌≢◌, ◌↔◌, ℕ, ◌+◌, ◌-◌, ◌*◌, ◌/◌, ◌%◌, ◌<◌, ◌≤◌, not, true, false, Bool, List, Some, length, slice_index, slice_set}
 use Rattle.std.specs.Int.{bit_at}
 use Rattle.puz_board.specs.Masks.{has_bit, ones_below}
 use Rattle.puz_board.specs.Cells.{reverse_of, step_of}
@@ -10,14 +10,9 @@ use Rattle.tab_runs.specs.RunPlaces.{IsRun}
 use Rattle.tab_runs.specs.Runs.{with_last}
 use Rattle.edge_words.specs.Indexes.{index_in}
 use Rattle.edge_words.specs.Lookups.{IsRunOf, but_last}
-use Rattle.edge_words.specs.OddEdges.{HasOddEdge}
 use Rattle.edge_words.specs.Words.{IsEdgeWord, TellsOfMove, move_of}
 use Rattle.edge_words.specs.declared.edges.Earlier.{Earlier}
 use Rattle.edge_words.specs.declared.edges.Near.{Near}
-
--- whether the move raises the least cost, or there is an odd edge
-abbrev pub IsToldOf : ShownPattern → List ℕ → ℕ → Move → Option Bool → Type 0
-IsToldOf p cells index move told = MatchOption told (HasOddEdge p) (TellsOfMove p cells index move)
 
 -- the move takes the blank to the tile with this index from a free cell, and leads to this run
 pub record IsNear (p : ShownPattern) (cells : List ℕ) (index : ℕ) (move : Move) (near : Near) : Type 0 where

@@ -1,12 +1,10 @@
 -- Words of the placements of some runs, one after the other by their indexes.
-use Rattle.std.specs.Prelude.{◌≡◌, ℕ, ◌+◌, ◌-◌, ◌*◌, ◌^◌, ◌<◌, ◌≤◌, ◌⊎◌, ⊤, Bool, List, length, slice_index}
-use Rattle.std.specs.Bool.{OnFalse, OnTrue}
+use Rattle.std.specs.Prelude.{◌≡◌, ℕ, ◌+◌, ◌-◌, ◌*◌, ◌^◌, ◌<◌, ◌≤◌, ◌⊎◌, ⊤, List, length, slice_index}
 use Rattle.pat_place.specs.Patterns.{ShownPattern}
 use Rattle.pat_place.specs.Placements.{IsFree}
 use Rattle.tab_runs.specs.RunPlaces.{IsRun}
 use Rattle.tab_runs.specs.Runs.{with_last}
 use Rattle.edge_words.specs.Indexes.{index_count, index_in, most_words}
-use Rattle.edge_words.specs.OddEdges.{HasOddEdge}
 use Rattle.edge_words.specs.Words.{IsEdgeWord}
 use Rattle.edge_words.specs.declared.fills.Span.{Span}
 
@@ -46,8 +44,3 @@ pub record IsFillable (p : ShownPattern) (s : Span) (words : List ℕ) : Type 0 
   pub span : IsSpan p s
   pub few : index_count p ≤ most_words
   pub size : length words ≡ (s.high - s.low) * (p.side * p.side)
-
--- they all tell of their moves, or there is an odd edge
-pub record IsFilled (p : ShownPattern) (s : Span) (words : List ℕ) (all : Bool) : Type 0 where
-  pub told : OnTrue all (AreAllTold p s words)
-  pub odd : OnFalse all (HasOddEdge p)

@@ -1,17 +1,15 @@
 //! The words of all placements, run by run.
 
 ghost use Rattle.std.specs.Prelude.{◌≡◌, ◌≢◌, ℕ, ◌+◌, ◌-◌, ◌*◌, ◌/◌, ◌%◌, ◌<◌, ◌≤◌, true, List, MatchOption, length};
-ghost use Rattle.std.specs.Bool.{OnFalse, OnTrue};
 ghost use Rattle.std.specs.List.{AllByRecursion};
 ghost use Rattle.puz_board.specs.Masks.{IsMaskOf};
 ghost use Rattle.pat_place.specs.Patterns.{has};
 ghost use Rattle.pat_place.specs.Placements.{IsApart};
 ghost use Rattle.tab_runs.specs.RunPlaces.{IsRun};
 ghost use denote.Param.Send.{IsSync};
-ghost use Rattle.edge_words.specs.Fills.{AreToldBelow, IsFillable, IsFilled, IsSpan, run_count};
+ghost use Rattle.edge_words.specs.Fills.{AreAllTold, AreToldBelow, IsFillable, IsSpan, run_count};
 ghost use Rattle.edge_words.specs.Indexes.{index_count, index_in, most_words};
 ghost use Rattle.edge_words.specs.Lookups.{IsRunOf, but_last};
-ghost use Rattle.edge_words.specs.OddEdges.{HasOddEdge};
 
 use crate::edges::words_of;
 use crate::lookups::Lookup;
@@ -29,16 +27,16 @@ pub(crate) struct Span {
     pub(crate) high: usize,
 }
 
-/// Fills in the words of a span by so many threads at once. It answers false where there is an odd edge.
+/// Fills in the words of a span by so many threads at once.
 pub(crate) fn fill_by<R: Threads + Sync>(
     rt: &R,
     lookup: &Lookup<'_>,
     threads: u8,
     span: Span,
     words: &mut [u32],
-) -> bool
+)
     requires { IsFillable lookup.now span words.old }
-    ensures { IsFilled lookup.now span words.new result }
+    ensures { AreAllTold lookup.now span words.new }
 {
     let cells = usize::from(lookup.pattern().side().cells());
     if threads < 2 {
@@ -57,60 +55,46 @@ pub(crate) fn fill_by<R: Threads + Sync>(
         ..span
     };
     let (front, back) = words.split_at_mut(part * cells);
-    let (one, other) = join_mut(
+    join_mut(
         rt,
-        &mut || -> bool
+        &mut ||
             requires { IsSync R.row × IsFillable lookup.now low front.now }
-            ensures { IsFilled lookup.entry.now low front.exit.now result }
+            ensures { AreAllTold lookup.entry.now low front.exit.now }
         { fill_by(rt, lookup, half, low, front) },
-        &mut || -> bool
+        &mut ||
             requires { IsSync R.row × IsFillable lookup.now high back.now }
-            ensures { IsFilled lookup.entry.now high back.exit.now result }
+            ensures { AreAllTold lookup.entry.now high back.exit.now }
         { fill_by(rt, lookup, others, high, back) },
     );
-    one && other
 }
 
-/// Fills in the words of a span, run by run. It answers false where there is an odd edge.
-fn fill(lookup: &Lookup<'_>, span: &Span, words: &mut [u32]) -> bool
+/// Fills in the words of a span, run by run.
+fn fill(lookup: &Lookup<'_>, span: &Span, words: &mut [u32])
     requires { IsFillable lookup.now span.now words.old }
-    ensures { IsFilled lookup.now span.now words.new result }
+    ensures { AreAllTold lookup.now span.now words.new }
 {
     for index in span.low..span.high {
         if let Some(run) = run_at(lookup, index) {
-            if !fill_run(lookup, &run, index, span, words) {
-                return false;
-            }
+            fill_run(lookup, &run, index, span, words);
         }
     }
-    true
 }
 
 /// Fills in the words of a run's placements, where those of the span's runs with lower indexes are there.
-fn fill_run(
-    lookup: &Lookup<'_>,
-    run: &RunView<'_>,
-    index: usize,
-    span: &Span,
-    words: &mut [u32],
-) -> bool
+fn fill_run(lookup: &Lookup<'_>, run: &RunView<'_>, index: usize, span: &Span, words: &mut [u32])
     requires run { IsRunOf lookup.now run.now }
     requires index { index_in lookup.now (but_last lookup.now run.now.cells) ≡ index }
     requires span { IsSpan lookup.now span.now × (span.now.low ≤ index) × (index < span.now.high) }
     requires few { index_count lookup.now ≤ most_words }
     requires told { AreToldBelow lookup.now span.now index words.old }
-    ensures told { OnTrue result (AreToldBelow lookup.now span.now (index + 1) words.new) }
-    ensures odd { OnFalse result (HasOddEdge lookup.now) }
+    ensures { AreToldBelow lookup.now span.now (index + 1) words.new }
 {
     let cells = lookup.pattern().side().cells();
     let start = (index - span.low) * usize::from(cells);
-    let Some(found) = words_of(lookup, run, &words[..start]) else {
-        return false;
-    };
+    let found = words_of(lookup, run, &words[..start]);
     for last in 0..cells {
         words[start + usize::from(last)] = found[usize::from(last)];
     }
-    true
 }
 
 /// The run with an index, where no two of its tiles are in the same cell.

@@ -1,6 +1,6 @@
 //! The entries of a table, by runs.
 
-ghost use Rattle.std.specs.Prelude.{◌≡◌, ◌+◌, ◌-◌, ◌*◌, ◌^◌, ◌<◌, ◌≤◌, true, IfOk, IfSome, length};
+ghost use Rattle.std.specs.Prelude.{◌≡◌, ◌+◌, ◌-◌, ◌*◌, ◌^◌, ◌<◌, ◌≤◌, true, IfSome, length};
 ghost use Rattle.puz_board.specs.Cells.{reverse_of, step_of};
 ghost use Rattle.puz_board.specs.Masks.{IsMaskOf};
 ghost use Rattle.pat_place.specs.Patterns.{IsPattern, has};
@@ -9,7 +9,7 @@ ghost use Rattle.pat_place.specs.Ranks.{IsRank};
 ghost use Rattle.pat_place.specs.Regions.{IsSlot};
 ghost use Rattle.tab_runs.specs.RunPlaces.{IsFirstRank, IsRun};
 ghost use Rattle.tab_runs.specs.Rows.{IsOpen, listed_below, row_length};
-ghost use Rattle.tab_runs.specs.RowTables.{AreRowsOf};
+ghost use Rattle.tab_runs.specs.RowTables.{AreRowsOf, rows_for};
 ghost use Rattle.tab_runs.specs.Runs.{with_last};
 ghost use Rattle.edge_words.specs.Indexes.{index_count, most_words};
 ghost use Rattle.edge_words.specs.Lookups.{AreEntriesOf, AreOrigins, HaveEntries, IsRunOf, SaysOfAll, but_last};
@@ -20,7 +20,6 @@ use crate::runs::RunView;
 use pat_place::{Pattern, rank_among, slot_of, unrank};
 use puz_board::masks::{all_below, count_below};
 use puz_board::{Move, Side, step};
-use std::alloc::{AllocError, Global};
 use std::marker::Model;
 use tab_rule::CheckedTable;
 use tab_runs::RowTable;
@@ -57,14 +56,14 @@ impl<'a> Model for Lookup<'a> {
 }
 
 impl<'a> Lookup<'a> {
-    /// The lookup of a table.
-    pub(crate) fn new(alloc: Global, table: &CheckedTable<'a>) -> Result<Lookup<'a>, AllocError>
-        requires { index_count table.now.pattern ≤ most_words }
-        ensures { IfOk result (λ pattern. pattern ≡ table.now.pattern) }
+    /// The lookup of a table, with the rows for its pattern.
+    pub(crate) fn new(table: &CheckedTable<'a>, rows: RowTable) -> Lookup<'a>
+        requires few { index_count table.now.pattern ≤ most_words }
+        requires rows { rows ≡ rows_for table.now.pattern }
+        ensures { result ≡ table.now.pattern }
     {
         let pattern = table.pattern();
-        let rows = RowTable::build(alloc, &pattern)?;
-        Ok(Lookup {
+        Lookup {
             pattern,
             entries: table.entries(),
             width: usize::from(pattern.width()),
@@ -72,7 +71,7 @@ impl<'a> Lookup<'a> {
             rows,
             origins: all_origins(pattern.side()),
             strides: strides_of(&pattern),
-        })
+        }
     }
 
     /// The pattern.

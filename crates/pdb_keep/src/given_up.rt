@@ -4,6 +4,7 @@ ghost use Rattle.std.specs.Prelude.{◌≡◌, IfOk, IfSome};
 ghost use Rattle.std.specs.Bool.{IsTrue};
 ghost use Rattle.puz_board.specs.Boards.{side_of};
 ghost use Rattle.puz_make.specs.Faults.{IsSearchFault};
+ghost use Rattle.puz_walk.specs.Starts.{IsStart};
 ghost use Rattle.pdb_keep.specs.GivenUp.{IsSpent, IsTooLong, search_guide};
 ghost use Rattle.pdb_keep.specs.Steps.{IsGivenUp};
 
@@ -13,6 +14,7 @@ use pdb_verdict::Fault;
 use puz_board::Board;
 use puz_make::MakeFault;
 use puz_search::{Deepened, Guide, SearchAnswer, refute, shortest, shortest_by};
+use puz_walk::Start;
 use set_sum::Bundle;
 use std::alloc::AllocError;
 use std::thread::Threads;
@@ -39,10 +41,11 @@ pub(crate) fn cause_of<H: Threads + Sync, G: Gate + Sync>(
 {
     let reversals = Automaton::of_reversals(workers.alloc, bundle.side())?;
     let guide = Guide::new(bundle, &reversals);
+    let start = Start::of(bundle, board);
     match fault {
-        MakeFault::K1 if is_spent(&guide, board, budget, workers) => Ok(Some(Fault::K1)),
+        MakeFault::K1 if is_spent(&guide, &start, budget, workers) => Ok(Some(Fault::K1)),
         MakeFault::K2 => Ok(Some(Fault::K2)),
-        MakeFault::K5 if is_too_long(&guide, board, workers.gate) => Ok(Some(Fault::K5)),
+        MakeFault::K5 if is_too_long(&guide, &start, workers.gate) => Ok(Some(Fault::K5)),
         MakeFault::Memory => Ok(Some(Fault::Memory)),
         _ => Ok(None),
     }
@@ -51,33 +54,33 @@ pub(crate) fn cause_of<H: Threads + Sync, G: Gate + Sync>(
 /// Whether a search for a shortest solution spends the budget: by all workers, or where they can't be started by one thread.
 fn is_spent<H: Threads + Sync, G: Gate + Sync>(
     guide: &Guide<'_>,
-    board: &Board,
+    start: &Start,
     budget: u64,
     workers: &Workers<'_, H, G>,
 ) -> bool
-    requires side { side_of board.now ≡ guide.now.bundle.side }
+    requires start { IsStart guide.now.bundle start.now }
     requires guide { guide.now ≡ search_guide guide.now.bundle }
-    ensures { IsTrue result → IsSpent guide.now.bundle board.now budget }
+    ensures { IsTrue result → IsSpent guide.now.bundle start.now.board budget }
 {
     let gate = SearchesAlone { gate: workers.gate };
     let workers = Workers::new(workers.rt, workers.alloc, workers.count, &gate);
-    let found = match shortest_by(guide, board, budget, &workers) {
+    let found = match shortest_by(guide, start, budget, &workers) {
         Ok(found) => found,
-        Err(_) => shortest(guide, board, budget),
+        Err(_) => shortest(guide, start, budget),
     };
     matches!(found, Deepened::Spent(_))
 }
 
 /// Whether the search below some threshold fails and expands so many boards that its log may be too long.
-fn is_too_long<G: Gate>(guide: &Guide<'_>, board: &Board, gate: &G) -> bool
-    requires side { side_of board.now ≡ guide.now.bundle.side }
+fn is_too_long<G: Gate>(guide: &Guide<'_>, start: &Start, gate: &G) -> bool
+    requires start { IsStart guide.now.bundle start.now }
     requires guide { guide.now ≡ search_guide guide.now.bundle }
-    ensures { IsTrue result → IsTooLong guide.now.bundle board.now }
+    ensures { IsTrue result → IsTooLong guide.now.bundle start.now.board }
 {
-    let mut bound = board.blank_parity();
+    let mut bound = start.board.blank_parity();
     while bound < LARGEST_BOUND {
         gate.searches(bound + 1);
-        match refute(guide, board, bound + 1, u64::MAX) {
+        match refute(guide, start, bound + 1, u64::MAX) {
             SearchAnswer::Refuted(boards) if boards >= MANY_BOARDS => return true,
             SearchAnswer::Refuted(boards) => {
                 gate.expanded(boards);

@@ -3,7 +3,7 @@ use Rattle.std.proofs.Common.{◌≡◌, ◌∙◌, ◌+◌, ◌-◌, ◌<◌, �
 use Rattle.std.proofs.Common.{append_assoc, arith, drop, get_or, length, map, refl, subst, sym, take, take-append-drop}
 use Rattle.std.specs.List.{All, AllZip}
 use Rattle.std.proofs.KnownBytes.{Appends-nil}
-use Rattle.std.proofs.Math.Seq.{take-add}
+use Rattle.std.proofs.Math.Seq.{take-add, take-length}
 use Rattle.std.proofs.lemmas.Grind.{common_steps, flat_map-append}
 use Rattle.std.proofs.lemmas.List.{append-nil, drop-map, drop_more, take-map}
 use Rattle.std.proofs.lemmas.List.Elements.{All-drop, All-take}
@@ -167,12 +167,30 @@ module _ {v : ShownBundle} {budget : ℕ} {a b c : World} (shown : List ShownCla
   pub next_told : {z : Bool} → AreAllTold v budget b c (take n (drop i shown)) z → AreAllTold v budget a c (take (i + n) shown) (y && z)
   next_told next = rw (take-add i n shown) (all_behind all next)
 
+  -- or m of these n
+  pub fewer_told : (m : ℕ) → m ≤ n → {z : Bool} → AreAllTold v budget b c (take m (take n (drop i shown))) z
+      → AreAllTold v budget a c (take (i + m) shown) (y && z)
+  fewer_told m few {z} next =
+      let same : take m (take n (drop i shown)) ≡ take m (drop i shown) = grind (arith, common_steps) in
+      rw (take-add i m shown) (all_behind all (subst (λ xs. AreAllTold v budget b c xs z) same next))
+
   -- or some of these
   pub next_cut : AreCut v budget b c (take n (drop i shown)) → AreCut v budget a c shown
   next_cut next =
       let whole : (take i shown ++ take n (drop i shown)) ++ drop (i + n) shown ≡ shown =
       rw (← take-add i n shown) (take-append-drop (i + n) shown) in
       subst (λ all. AreCut v budget a c all) whole (cut_before (drop (i + n) shown) (cut_behind all next))
+
+-- where as many are told as there are, all are
+pub whole_told : {v : ShownBundle} {budget : ℕ} {a b : World} {y : Bool} (shown : List ShownClaim) (n : ℕ) → n ≡ length shown
+    → AreAllTold v budget a b (take n shown) y → AreAllTold v budget a b shown y
+whole_told {v} {budget} {a} {b} {y} shown n count told =
+    subst (λ xs. AreAllTold v budget a b xs y) (ap (λ k. take k shown) count ∙ take-length shown) told
+
+-- the claims behind the first i, cut out of all claims
+pub rest_shown : (claims : List Claim) (i : ℕ) → map claim_shown (take (length claims - i) (drop i claims))
+    ≡ take (length claims - i) (drop i (map claim_shown claims))
+rest_shown claims i = rw (drop-map claim_shown i claims) (sym (take-map claim_shown (length claims - i) (drop i claims)))
 
 -- the claim with a number below the count of claims
 pub claim_at : (claims : List Claim) (i : ℕ) → i < length claims → (claim : Claim) × (claim ≡ get_or claims i claim)

@@ -1,23 +1,76 @@
 -- Words of tables, one after the other, and how many placements the tables have.
-use Rattle.std.proofs.Common.{◌≡◌, ◌+◌, ◌*◌, ◌<◌, ℕ, List, [], ◌∷◌, ◌++◌, Some, inl, inr, ap, arith, length, slice_get, slice_index_or, sym, take}
+use Rattle.std.proofs.Common.{true, false, ◌≡◌, ◌∙◌, ◌+◌, ◌*◌, ◌<◌, ◌≤◌, ◌⊎◌, ℕ, zero, suc, List, [], ◌∷◌, ◌++◌, Option, Some, None, inl, inr, ap, arith, drop, get_or, length, refl, slice_get, slice_index_or, sym, take}
 use Rattle.std.specs.List.{sum_by}
 use Rattle.std.proofs.lemmas.Bool.{cases_lt}
 use Rattle.std.proofs.lemmas.Grind.{common_steps}
+use Rattle.std.proofs.lemmas.List.{drop_more}
 use Rattle.std.proofs.lemmas.List.Sums.{sum_by_more}
 use Rattle.std.proofs.lemmas.Option.{gets}
+use Rattle.pat_place.specs.Patterns.{ShownPattern}
 use Rattle.pat_place.specs.Ranks.{falling_factorial}
 use Rattle.tab_file.specs.Tables.{Table}
 use Rattle.set_sum.specs.Bundles.{ShownBundle}
 use Rattle.set_sum.specs.Parts.{ShownPart, no_part, part_pattern, part_shown}
 use Rattle.set_sum.specs.declared.parts.Part.TheVariants.{Full}
+use Rattle.set_sum.proofs.ListLemmas.{get_or-slice_get}
 use Rattle.edge_words.specs.Words.{ShownWords}
-use Rattle.puz_walk.specs.WordBundles.{HasWords}
+use Rattle.puz_walk.specs.WordBundles.{HasWords, pattern_at}
+use Rattle.pdb_prove.specs.Steps.{HaveRooms, IsStopped, IsWantedIf}
+use Rattle.pdb_prove.specs.declared.prepared.Prepared.{Prepared}
 
 same_below : {X : Type 0} (xs : List X) (y x : X) (t : ℕ) → t < length xs → slice_get (xs ++ y ∷ []) t ≡ Some x → slice_get xs t ≡ Some x
 same_below xs y x t low is = grind (arith, common_steps, gets)
 
 last_is : {X : Type 0} (xs : List X) (y x : X) → slice_get (xs ++ y ∷ []) (length xs) ≡ Some x → x ≡ y
 last_is xs y x is = grind (arith, common_steps, gets)
+
+-- where something is found, nothing is prepared
+pub not_wanted : {A : Type 0} (found : A) (v : ShownBundle) (prepared : Option Prepared) → IsWantedIf (Some found) v prepared → prepared ≡ None
+not_wanted found v None is = refl
+not_wanted found v (Some prepared) is = absurd (let e : true ≡ false = is.0 in cc)
+
+-- where all claims are told, nothing is prepared
+pub all_told : (told count : ℕ) (v : ShownBundle) (prepared : Option Prepared) → IsStopped told count v prepared → count ≤ told → prepared ≡ None
+all_told told count v None is all = refl
+all_told told count v (Some prepared) is all = absurd (let few = is.0 in omega arith)
+
+-- an element of a list with one more is one of the list, or that one
+pub get_push : {X : Type 0} (xs : List X) (y x : X) (t : ℕ) → slice_get (xs ++ y ∷ []) t ≡ Some x
+    → (slice_get xs t ≡ Some x) ⊎ ((t ≡ length xs) × (x ≡ y))
+get_push [] y x zero is = inr (refl, (let s : Some y ≡ Some x = is in cc))
+get_push [] y x (suc t) is = absurd (let s : None ≡ Some x = is in cc)
+get_push (z ∷ xs) y x zero is = inl is
+get_push (z ∷ xs) y x (suc t) is = elim (get_push xs y x t is) [
+  | inl there ↦ inl there
+  | inr last ↦ inr (ap suc last.0, last.1)
+]
+
+-- with memory for the words of the next table there is memory for those of all tables so far and of this one
+pub more_rooms : (v : ShownBundle) (rooms : List ShownPattern) (room : ShownPattern)
+    → ((t : ℕ) (r : ShownPattern) → slice_get rooms t ≡ Some r → r ≡ pattern_at v t) → room ≡ pattern_at v (length rooms)
+    → (t : ℕ) (r : ShownPattern) → slice_get (rooms ++ room ∷ []) t ≡ Some r → r ≡ pattern_at v t
+more_rooms v rooms room each here t r is = elim (get_push rooms room r t is) [
+  | inl there ↦ each t r there
+  | inr last ↦ last.1 ∙ here ∙ ap (pattern_at v) (sym last.0)
+]
+
+-- of the memory for the words of all tables, that for the next table comes first
+pub next_room : (v : ShownBundle) (all : List ShownPattern) → HaveRooms v all → (n : ℕ) → n < length v.tables → (room : ShownPattern)
+    → room ≡ slice_index_or (drop n all) 0 room → room ≡ pattern_at v n
+next_room v all have n low room is =
+    let size = have.size in
+    let more = drop_more all n room (omega arith) in
+    let first : room ≡ get_or all n room = is ∙ ap (λ xs. slice_index_or xs 0 room) more in
+    have.each n room (get_or-slice_get all n room (omega arith) ∙ ap Some (sym first))
+
+drop_one : {X : Type 0} (k : ℕ) (xs : List X) → drop 1 (drop k xs) ≡ drop (suc k) xs
+drop_one zero xs = refl
+drop_one (suc k) [] = refl
+drop_one (suc k) (x ∷ xs) = drop_one k xs
+
+-- and behind it that for the others
+pub rooms_left : (all : List ShownPattern) (n : ℕ) → take 0 (drop n all) ++ drop 1 (drop n all) ≡ drop (n + 1) all
+rooms_left all n = drop_one n all ∙ ap (λ k. drop k all) (let e : suc n ≡ n + 1 = omega arith in e)
 
 module _ (v : ShownBundle) (n : ℕ) (table : Table) (shows : part_shown (Full table) ≡ slice_index_or v.tables n no_part)
     (side : (part_pattern (Full table)).side ≡ v.side) where

@@ -1,9 +1,11 @@
 -- What the steps of a run of claims say.
-use Rattle.std.specs.Prelude.{◌≡◌, ℕ, ◌*◌, ◌<◌, ◌++◌, Bool, true, false, List, length, slice_index_or, Option, IfSome, Result, Ok, Err, MatchResult, Vec}
+use Rattle.std.specs.Prelude.{◌≡◌, ℕ, ◌*◌, ◌<◌, ◌≤◌, ◌++◌, Bool, true, false, List, [], length, slice_get, slice_index_or, take, Option, Some, None, IfSome, IsNone, IsSome, MatchOption, Result, Ok, Err, MatchResult, Vec, vec_capacity}
 use Rattle.std.specs.List.{AllZip, sum_by}
 use Rattle.puz_board.specs.MovesTexts.{Solves}
+use Rattle.pat_place.specs.Patterns.{ShownPattern}
 use Rattle.pat_place.specs.Ranks.{falling_factorial}
 use Rattle.set_sum.specs.Bundles.{ShownBundle}
+use Rattle.puz_walk.specs.WordBundles.{most_worded, pattern_at}
 use Rattle.claim_text.specs.Claims as claims
 use Rattle.claim_text.specs.Claims.{ShownAsks, ShownClaim}
 use Rattle.claim_text.specs.Lines.{Told}
@@ -13,6 +15,7 @@ use Rattle.claim_text.specs.declared.claims.Claim.{Claim}
 use Rattle.claim_text.specs.declared.faults.ClaimsFault.{ClaimsFault}
 use Rattle.claim_text.specs.declared.faults.ClaimsFault.TheVariants as claims_fault
 use Rattle.byte_io.specs.declared.streams.WriteFault.{WriteFault}
+use Rattle.byte_io.specs.Shelf.{Bytes}
 use Rattle.pdb_request.specs.declared.requests.Prove.{Prove}
 use Rattle.pdb_run.specs.Answers.{all_bytes}
 use Rattle.pdb_run.specs.Io.{IsWritten}
@@ -22,6 +25,9 @@ use Rattle.pdb_verdict.specs.declared.verdicts.Fault.{Fault}
 use Rattle.pdb_verdict.specs.declared.verdicts.Fault.TheVariants as fault
 use Rattle.pdb_prove.specs.Answers.{IsFoundFor, IsToldOf, are_yes}
 use Rattle.pdb_prove.specs.Prove.{ClaimsFiles, IsUnready, told_lines}
+use Rattle.pdb_prove.specs.declared.batches.Telling.{Telling}
+use Rattle.pdb_prove.specs.declared.prepared.Prepared.{Prepared}
+use Rattle.pdb_prove.specs.declared.runs.Wanted.{Wanted}
 use Rattle.pdb_prove.specs.declared.answers.Finding.{Finding}
 use Rattle.pdb_prove.specs.declared.answers.Finding.TheVariants.{Refused}
 use Rattle.pdb_prove.specs.declared.answers.Question.{Question}
@@ -30,6 +36,10 @@ use Rattle.pdb_prove.specs.declared.answers.Question.TheVariants.{Bound, Moves, 
 -- the files that were read for claims
 abbrev pub files_read : {A : Type 0} → Prove (Vec ℕ A) (Vec ℕ A) → ClaimsFiles
 files_read prove = record { claims = prove.claims.items; sets = prove.sets.items; tables = all_bytes prove.tables.items }
+
+-- files that are given one by one
+abbrev pub given_files : {A : Type 0} → Bytes → Bytes → List (Vec ℕ A) → ClaimsFiles
+given_files claims sets tables = record { claims = claims; sets = sets; tables = all_bytes tables }
 
 -- why nothing is searched, or want of memory, which comes of a text of claims alone
 abbrev pub IsCauseForClaims : Bool → ClaimsFiles → Fault → Type 0
@@ -95,3 +105,47 @@ module _ (v : ShownBundle) (budget : ℕ) (old new : World) where
 -- one of the two
 abbrev pub AreTold : ShownBundle → ℕ → List ShownClaim → World → World → Result Bool WriteFault → Type 0
 AreTold v budget claims old new result = MatchResult result (AreAllTold v budget old new claims) (λ _. AreCut v budget old new claims)
+
+-- so many claims were answered, the first ones, and their lines written
+pub record IsToldTo (v : ShownBundle) (budget : ℕ) (claims : List ShownClaim) (old new : World) (telling : Telling) : Type 0 where
+  pub few : telling.told ≤ length claims
+  pub all : AreAllTold v budget old new (take telling.told claims) telling.is_yes
+
+-- the same, or a front was written
+abbrev pub IsTelling : ShownBundle → ℕ → List ShownClaim → World → World → Result Telling WriteFault → Type 0
+IsTelling v budget claims old new result = MatchResult result (IsToldTo v budget claims old new) (λ _. AreCut v budget old new claims)
+
+-- all were answered, or nothing was written since words are wanted first, or a front was written
+abbrev pub IsToldOrWanted : ShownBundle → ℕ → List ShownClaim → World → World → Result (Option Bool) WriteFault → Type 0
+IsToldOrWanted v budget claims old new result =
+    MatchResult result (λ one. MatchOption one (new ≡ old) (AreAllTold v budget old new claims)) (λ _. AreCut v budget old new claims)
+
+-- ---- the memory for words
+
+-- there is memory for the words of each table of a bundle
+pub record HaveRooms (v : ShownBundle) (rooms : List ShownPattern) : Type 0 where
+  pub size : length rooms ≡ length v.tables
+  pub each : (table : ℕ) (room : ShownPattern) → slice_get rooms table ≡ Some room → room ≡ pattern_at v table
+
+-- there is all memory for the words of the tables of a bundle
+pub record IsPreparedFor (v : ShownBundle) (prepared : Prepared) : Type 0 where
+  pub few : length v.tables ≤ most_worded
+  pub outline : prepared.outline ≡ v
+  pub rooms : HaveRooms v prepared.rooms.items
+  pub empty : prepared.words.items ≡ []
+  pub room : length v.tables ≤ vec_capacity prepared.words
+
+-- where something is found nothing is prepared, and else all is
+abbrev pub IsWantedIf : {A : Type 0} → Option A → ShownBundle → Option Prepared → Type 0
+IsWantedIf found v None = IsSome found
+IsWantedIf found v (Some prepared) = IsNone found × IsPreparedFor v prepared
+
+-- so many of some claims are told: all where nothing is prepared, and else fewer
+abbrev pub IsStopped : ℕ → ℕ → ShownBundle → Option Prepared → Type 0
+IsStopped told count v None = told ≡ count
+IsStopped told count v (Some prepared) = (told < count) × IsPreparedFor v prepared
+
+-- there is all memory for the words, and an automaton of strings for boards of the side, if there is one
+pub record IsWantedFor (v : ShownBundle) (wanted : Wanted) : Type 0 where
+  pub prepared : IsPreparedFor v wanted.prepared
+  pub strings : IfSome wanted.strings (λ strings. strings.side ≡ v.side)

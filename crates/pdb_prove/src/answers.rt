@@ -1,15 +1,17 @@
 //! The answer to one claim, by one thread or by all workers.
 
 ghost use Rattle.std.specs.Prelude.{◌≡◌, ℕ, IfErr, IfOk, IfSome, List, min};
-ghost use Rattle.puz_board.specs.Boards.{side_of};
 ghost use Rattle.puz_board.specs.MovesTexts.{Solves};
 ghost use Rattle.claim_text.specs.Shown.{claim_shown};
 ghost use Rattle.move_strings.specs.BoundParts.{ShownPart};
+ghost use Rattle.puz_walk.specs.Starts.{IsStart};
 ghost use Rattle.puz_search.specs.Answers.{IsAnswer, IsAnswerOfPart, IsDeepened};
 ghost use Rattle.puz_search.specs.Guides.{ShownGuide};
 ghost use Rattle.pdb_prove.specs.Answers.{IsBoundFor, IsFoundBy, IsOptimumFor, IsPartFor, IsShortestFor, is_found_yes};
+ghost use Rattle.pdb_prove.specs.Posed.{IsPosed};
 ghost use Rattle.pdb_prove.specs.Steps.{IsAskedOf, is_spent};
 
+use crate::posed::Posed;
 use claim_text::{Asks, Claim};
 use pdb_verdict::Fault;
 use puz_board::{Board, replay};
@@ -18,6 +20,7 @@ use puz_search::{
     Deepened, Guide, Letters, PartBound, SearchAnswer, refute, refute_by, refute_part,
     refute_part_by, shortest, shortest_by,
 };
+use puz_walk::Start;
 use std::thread::Threads;
 use work_run::{Gate, Workers};
 
@@ -61,30 +64,32 @@ impl Finding {
 pub(crate) const FEW_BOARDS: u64 = 1 << 16;
 
 /// What is found for a claim by one thread that expands few boards, where these are enough.
-pub(crate) fn answer_soon(guide: &Guide<'_>, claim: &Claim<'_>, budget: u64) -> Option<Finding>
-    requires { side_of claim.now.board ≡ guide.now.bundle.side }
-    ensures { IfSome result (IsFoundBy guide.now budget (claim_shown claim.now)) }
+pub(crate) fn answer_soon(guide: &Guide<'_>, posed: Posed<'_>, budget: u64) -> Option<Finding>
+    requires { IsPosed guide.now.bundle posed.claim.now posed.start.now }
+    ensures { IfSome result (IsFoundBy guide.now budget (claim_shown posed.entry.claim.now)) }
 {
     if budget <= FEW_BOARDS {
-        return Some(answer_alone(guide, claim, budget));
+        return Some(answer_alone(guide, posed, budget));
     }
-    let found = answer_alone(guide, claim, FEW_BOARDS);
+    let found = answer_alone(guide, posed, FEW_BOARDS);
     if found.is_spent() { None } else { Some(found) }
 }
 
 /// What is found for a claim by one thread that expands at most so many boards.
-fn answer_alone(guide: &Guide<'_>, claim: &Claim<'_>, budget: u64) -> Finding
-    requires { side_of claim.now.board ≡ guide.now.bundle.side }
-    ensures { IsFoundBy guide.now budget (claim_shown claim.now) result }
+fn answer_alone(guide: &Guide<'_>, posed: Posed<'_>, budget: u64) -> Finding
+    requires { IsPosed guide.now.bundle posed.claim.now posed.start.now }
+    ensures { IsFoundBy guide.now budget (claim_shown posed.entry.claim.now) result }
 {
-    let board = &claim.board;
-    match asked_of(claim) {
-        Ok(Question::Shortest) => found_shortest(board, shortest(guide, board, budget)),
-        Ok(Question::Moves(count)) => {
-            found_moves(count, refute(guide, board, bound_of(count), budget))
+    let start = posed.start;
+    match asked_of(posed.claim) {
+        Ok(Question::Shortest) => {
+            found_shortest(&posed.claim.board, shortest(guide, start, budget))
         }
-        Ok(Question::Bound(bound)) => found_bound(refute(guide, board, bound, budget)),
-        Ok(Question::Part(part)) => found_part(refute_part(guide, board, &part, budget)),
+        Ok(Question::Moves(count)) => {
+            found_moves(count, refute(guide, start, bound_of(count), budget))
+        }
+        Ok(Question::Bound(bound)) => found_bound(refute(guide, start, bound, budget)),
+        Ok(Question::Part(part)) => found_part(refute_part(guide, start, &part, budget)),
         Err(refused) => Finding::Refused(refused),
     }
 }
@@ -92,27 +97,28 @@ fn answer_alone(guide: &Guide<'_>, claim: &Claim<'_>, budget: u64) -> Finding
 /// What is found for a claim by all workers, which expand at most so many boards together.
 pub(crate) fn answer_by<R: Threads + Sync, G: Gate + Sync>(
     guide: &Guide<'_>,
-    claim: &Claim<'_>,
+    posed: Posed<'_>,
     budget: u64,
     workers: &Workers<'_, R, G>,
 ) -> Finding
-    requires { side_of claim.now.board ≡ guide.now.bundle.side }
-    ensures { IsFoundBy guide.now budget (claim_shown claim.now) result }
+    requires { IsPosed guide.now.bundle posed.claim.now posed.start.now }
+    ensures { IsFoundBy guide.now budget (claim_shown posed.entry.claim.now) result }
 {
-    let board = &claim.board;
-    match asked_of(claim) {
+    let start = posed.start;
+    match asked_of(posed.claim) {
         Ok(Question::Shortest) => {
-            found_shortest(board, shortest_together(guide, board, budget, workers))
+            let deepened = shortest_together(guide, start, budget, workers);
+            found_shortest(&posed.claim.board, deepened)
         }
         Ok(Question::Moves(count)) => {
             let bound = bound_of(count);
-            found_moves(count, refute_together(guide, board, bound, budget, workers))
+            found_moves(count, refute_together(guide, start, bound, budget, workers))
         }
         Ok(Question::Bound(bound)) => {
-            found_bound(refute_together(guide, board, bound, budget, workers))
+            found_bound(refute_together(guide, start, bound, budget, workers))
         }
         Ok(Question::Part(part)) => {
-            found_part(refute_part_together(guide, board, &part, budget, workers))
+            found_part(refute_part_together(guide, start, &part, budget, workers))
         }
         Err(refused) => Finding::Refused(refused),
     }
@@ -215,49 +221,49 @@ fn found_part(answer: SearchAnswer) -> Finding
 /// As `refute_part_by`, or where workers can't be started as `refute_part`.
 fn refute_part_together<R: Threads + Sync, G: Gate + Sync>(
     guide: &Guide<'_>,
-    board: &Board,
+    start: &Start,
     part: &PartBound,
     budget: u64,
     workers: &Workers<'_, R, G>,
 ) -> SearchAnswer
-    requires { side_of board.now ≡ guide.now.bundle.side }
-    ensures { IsAnswerOfPart guide.now part.now.part board.now part.now.bound budget result }
+    requires { IsStart guide.now.bundle start.now }
+    ensures { IsAnswerOfPart guide.now part.now.part start.now.board part.now.bound budget result }
 {
-    match refute_part_by(guide, board, part, budget, workers) {
+    match refute_part_by(guide, start, part, budget, workers) {
         Ok(answer) => answer,
-        Err(_) => refute_part(guide, board, part, budget),
+        Err(_) => refute_part(guide, start, part, budget),
     }
 }
 
 /// As `refute_by`, or where workers can't be started as `refute`.
 fn refute_together<R: Threads + Sync, G: Gate + Sync>(
     guide: &Guide<'_>,
-    board: &Board,
+    start: &Start,
     bound: u8,
     budget: u64,
     workers: &Workers<'_, R, G>,
 ) -> SearchAnswer
-    requires { side_of board.now ≡ guide.now.bundle.side }
-    ensures { IsAnswer guide.now board.now bound budget result }
+    requires { IsStart guide.now.bundle start.now }
+    ensures { IsAnswer guide.now start.now.board bound budget result }
 {
-    match refute_by(guide, board, bound, budget, workers) {
+    match refute_by(guide, start, bound, budget, workers) {
         Ok(answer) => answer,
-        Err(_) => refute(guide, board, bound, budget),
+        Err(_) => refute(guide, start, bound, budget),
     }
 }
 
 /// As `shortest_by`, or where workers can't be started as `shortest`.
 fn shortest_together<R: Threads + Sync, G: Gate + Sync>(
     guide: &Guide<'_>,
-    board: &Board,
+    start: &Start,
     budget: u64,
     workers: &Workers<'_, R, G>,
 ) -> Deepened
-    requires { side_of board.now ≡ guide.now.bundle.side }
-    ensures { IsDeepened guide.now board.now budget result }
+    requires { IsStart guide.now.bundle start.now }
+    ensures { IsDeepened guide.now start.now.board budget result }
 {
-    match shortest_by(guide, board, budget, workers) {
+    match shortest_by(guide, start, budget, workers) {
         Ok(deepened) => deepened,
-        Err(_) => shortest(guide, board, budget),
+        Err(_) => shortest(guide, start, budget),
     }
 }

@@ -1,25 +1,26 @@
 //! Claims in batches: what one thread finds soon is found for all claims of a batch first, by all workers, and the rest of a batch
 //! is searched for claim by claim, by all workers together.
 
-ghost use Rattle.std.specs.Prelude.{◌≡◌, ◌<◌, ◌∷◌, [], length, map, slice_index_or};
+ghost use Rattle.std.specs.Prelude.{◌≡◌, ◌*◌, ◌<◌, ◌∷◌, [], IfOk, IsSome, None, length, map, slice_index_or};
 ghost use Rattle.std.specs.List.{All};
-ghost use Rattle.puz_board.specs.Boards.{side_of};
 ghost use Rattle.claim_text.specs.Lines.{HasFewLetters};
 ghost use Rattle.claim_text.specs.Shown.{claim_shown};
 ghost use Rattle.claim_text.specs.declared.claims.Claim.{Claim};
+ghost use Rattle.puz_search.specs.StoredGuides.{bundle_of};
 ghost use Rattle.pdb_prove.specs.Answers.{IsFoundFor};
-ghost use Rattle.pdb_prove.specs.Steps.{AreFoundSoon, AreTold};
+ghost use Rattle.pdb_prove.specs.Posed.{ArePosed};
+ghost use Rattle.pdb_prove.specs.Steps.{AreFoundSoon, IsStopped, IsTelling, IsToldOrWanted, IsWantedIf};
 
 use crate::answers::{Finding, answer_soon};
 use crate::help::Help;
-use crate::ready::Ready;
+use crate::posed::Posed;
 use crate::telling::line_on;
 use byte_io::streams::WriteFault;
 use claim_text::Claim;
 use move_strings::Automaton;
 use pdb_run::Io;
-use puz_search::Guide;
-use set_sum::Bundle;
+use puz_search::{Guide, Sets};
+use puz_walk::Start;
 use std::thread::Threads;
 use work_run::{Gate, Workers};
 use work_share::{Task, share};
@@ -27,21 +28,24 @@ use work_share::{Task, share};
 /// How many claims a batch has.
 const BATCH: usize = 1024;
 
-/// Claims over a bundle and the automaton of reversals of the side of their boards, and how many boards may be expanded for each.
+/// Claims over sets and the automaton of reversals of the side of their boards, and how many boards may be expanded for each.
 #[derive(Drop)]
 pub(crate) struct Batch<'a> {
-    pub(crate) bundle: &'a Bundle<'a>,
+    pub(crate) sets: Sets<'a>,
     pub(crate) reversals: &'a Automaton,
     pub(crate) claims: &'a [Claim<'a>],
+    /// The start for each claim.
+    pub(crate) starts: &'a [Start],
     pub(crate) budget: u64,
     /// The number of the first claim.
     pub(crate) first: u64,
-    ghost sides: { All (λ claim. side_of claim.board ≡ bundle.now.side) claims.now },
-    ghost one_side: { reversals.now.side ≡ bundle.now.side },
+    ghost posed: { ArePosed (bundle_of sets) claims.now starts.now },
+    ghost one_side: { reversals.now.side ≡ (bundle_of sets).side },
 }
 
 impl<'a> Task for Batch<'a> {
     ghost use Rattle.std.specs.Prelude.{IfSome, length};
+    ghost use Rattle.puz_search.specs.StoredGuides.{bundle_of};
     ghost use Rattle.pdb_prove.specs.Steps.{IsFoundAt};
 
     type Outcome = Option<Finding>;
@@ -49,15 +53,19 @@ impl<'a> Task for Batch<'a> {
     ghost jobs = { λ batch. length batch.claims.now };
 
     ghost gives = { λ batch number found.
-        IfSome found (IsFoundAt batch.bundle.now batch.budget batch.claims.now number) };
+        IfSome found (IsFoundAt (bundle_of batch.sets) batch.budget batch.claims.now number) };
 
     fn count(&self) -> usize {
         self.claims.len()
     }
 
     fn run(&self, number: usize) -> Option<Finding> {
-        let guide = Guide::new(self.bundle, self.reversals);
-        answer_soon(&guide, &self.claims[number], self.budget)
+        let guide = Guide::over(self.sets, self.reversals);
+        let posed = Posed {
+            claim: &self.claims[number],
+            start: &self.starts[number],
+        };
+        answer_soon(&guide, posed, self.budget)
     }
 }
 
@@ -68,54 +76,91 @@ struct BegunBatch<'a> {
     soon: &'a [Option<Finding>],
 }
 
-/// Tells all claims in their order: whether all of them are answered with a yes.
-pub(crate) fn tell_all<H: Threads + Sync, G: Gate + Sync, I: Io>(
-    ready: &Ready<'_, '_>,
-    budget: u64,
-    workers: &Workers<'_, H, G>,
-    io: &mut I,
-) -> Result<bool, WriteFault>
-    requires few { All (λ claim. HasFewLetters (claim_shown claim)) ready.now.claims.items }
-    ensures same_streams { I.streams io.new ≡ I.streams io.old }
-    ensures told { let shown = map claim_shown ready.now.claims.items in
-        AreTold ready.now.bundle budget shown (I.world io.old) (I.world io.new) result }
-{
-    let (bundle, reversals) = (&ready.bundle, &ready.reversals);
-    let claims = ready.claims.as_slice();
-    let mut help = Help::new(bundle, reversals);
-    let mut told = 0;
-    let mut all_yes = true;
-    while told < claims.len() {
-        let (next, _) = claims[told..].split_at(BATCH.min(claims.len() - told));
-        let batch = Batch {
-            bundle,
-            reversals,
-            claims: next,
-            budget,
-            first: told as u64,
-        };
-        match tell_batch(&batch, &mut help, workers, io) {
-            Ok(is_yes) => all_yes &= is_yes,
-            Err(fault) => return Err(fault),
-        }
-        told += next.len();
-    }
-    Ok(all_yes)
+/// How far claims are told.
+#[derive(Clone, Copy)]
+pub(crate) struct Telling {
+    /// So many are told. Before the next, if there is one, words are wanted.
+    pub(crate) told: usize,
+    /// Whether each of them is answered with a yes.
+    pub(crate) is_yes: bool,
 }
 
-/// Tells the claims of a batch.
+/// Claims, the first of which has this number, and the budget of each.
+#[derive(Clone, Copy)]
+pub(crate) struct Asked<'a> {
+    pub(crate) claims: &'a [Claim<'a>],
+    /// The start for each claim.
+    pub(crate) starts: &'a [Start],
+    pub(crate) first: u64,
+    pub(crate) budget: u64,
+}
+
+/// Tells claims in their order, until words are wanted.
+pub(crate) fn tell_claims<H: Threads + Sync, G: Gate + Sync, I: Io>(
+    asked: Asked<'_>,
+    help: &mut Help<'_>,
+    workers: &Workers<'_, H, G>,
+    io: &mut I,
+) -> Result<Telling, WriteFault>
+    requires few { All (λ claim. HasFewLetters (claim_shown claim)) asked.claims.now }
+    requires posed { ArePosed (bundle_of help.old.sets) asked.claims.now asked.starts.now }
+    requires unprepared { help.old.prepared ≡ None }
+    ensures sets { help.new.sets ≡ help.old.sets }
+    ensures wanted { let v = bundle_of help.old.sets in IfOk result
+        (λ telling. IsStopped telling.told (length asked.entry.claims.now) v help.new.prepared) }
+    ensures goes_on { help.old.before_words ≡ None
+        → (help.new.before_words ≡ None) × (help.new.prepared ≡ None) }
+    ensures same_streams { I.streams io.new ≡ I.streams io.old }
+    ensures told { let shown = map claim_shown asked.entry.claims.now in let v = bundle_of help.old.sets in
+        IsTelling v asked.entry.budget shown (I.world io.old) (I.world io.new) result }
+{
+    let claims = asked.claims;
+    let mut told = 0;
+    let mut is_yes = true;
+    while told < claims.len() {
+        let count = BATCH.min(claims.len() - told);
+        let (next, _) = claims[told..].split_at(count);
+        let (starts, _) = asked.starts[told..].split_at(count);
+        let batch = Batch {
+            sets: help.sets,
+            reversals: help.reversals,
+            claims: next,
+            starts,
+            budget: asked.budget,
+            first: asked.first.saturating_add(told as u64),
+        };
+        match tell_batch(&batch, help, workers, io) {
+            Ok(telling) => {
+                told += telling.told;
+                is_yes &= telling.is_yes;
+                if telling.told < next.len() {
+                    return Ok(Telling { told, is_yes });
+                }
+            }
+            Err(fault) => return Err(fault),
+        }
+    }
+    Ok(Telling { told, is_yes })
+}
+
+/// Tells the claims of a batch, until words are wanted.
 fn tell_batch<H: Threads + Sync, G: Gate + Sync, I: Io>(
     batch: &Batch<'_>,
     help: &mut Help<'_>,
     workers: &Workers<'_, H, G>,
     io: &mut I,
-) -> Result<bool, WriteFault>
+) -> Result<Telling, WriteFault>
     requires few { All (λ claim. HasFewLetters (claim_shown claim)) batch.now.claims.now }
-    requires bundle { help.old.bundle.now ≡ batch.now.bundle.now }
-    ensures bundle { help.new.bundle ≡ help.old.bundle }
+    requires sets { bundle_of help.old.sets ≡ bundle_of batch.now.sets }
+    requires unprepared { help.old.prepared ≡ None }
+    ensures sets { help.new.sets ≡ help.old.sets }
+    ensures wanted { let v = bundle_of help.old.sets in IfOk result
+        (λ telling. IsStopped telling.told (length batch.now.claims.now) v help.new.prepared) }
+    ensures goes_on { help.old.before_words ≡ None
+        → (help.new.before_words ≡ None) × (help.new.prepared ≡ None) }
     ensures same_streams { I.streams io.new ≡ I.streams io.old }
-    ensures told { let batch = batch.now in let shown = map claim_shown batch.claims.now in
-        AreTold batch.bundle.now batch.budget shown (I.world io.old) (I.world io.new) result }
+    ensures told { let shown = map claim_shown batch.now.claims.now in let v = bundle_of help.old.sets in
+        IsTelling v batch.now.budget shown (I.world io.old) (I.world io.new) result }
 {
     // Where workers can't be started, all claims are left to be searched for one by one.
     match share(batch, workers) {
@@ -127,51 +172,70 @@ fn tell_batch<H: Threads + Sync, G: Gate + Sync, I: Io>(
     }
 }
 
-/// Tells each claim of a batch.
+/// Tells each claim of a batch, until words are wanted.
 fn tell_each<H: Threads + Sync, G: Gate + Sync, I: Io>(
     known: &BegunBatch<'_>,
     help: &mut Help<'_>,
     workers: &Workers<'_, H, G>,
     io: &mut I,
-) -> Result<bool, WriteFault>
+) -> Result<Telling, WriteFault>
     requires few { All (λ claim. HasFewLetters (claim_shown claim)) known.now.batch.now.claims.now }
     requires right { let b = known.now.batch.now in
-        AreFoundSoon b.bundle.now b.budget b.claims.now known.now.soon.now }
-    requires bundle { help.old.bundle.now ≡ known.now.batch.now.bundle.now }
-    ensures bundle { help.new.bundle ≡ help.old.bundle }
+        AreFoundSoon (bundle_of b.sets) b.budget b.claims.now known.now.soon.now }
+    requires sets { bundle_of help.old.sets ≡ bundle_of known.now.batch.now.sets }
+    requires unprepared { help.old.prepared ≡ None }
+    ensures sets { help.new.sets ≡ help.old.sets }
+    ensures wanted { let count = length known.now.batch.now.claims.now in IfOk result
+        (λ telling. IsStopped telling.told count (bundle_of help.old.sets) help.new.prepared) }
+    ensures goes_on { help.old.before_words ≡ None
+        → (help.new.before_words ≡ None) × (help.new.prepared ≡ None) }
     ensures same_streams { I.streams io.new ≡ I.streams io.old }
-    ensures told { let batch = known.now.batch.now in
-        let shown = map claim_shown batch.claims.now in
-        AreTold batch.bundle.now batch.budget shown (I.world io.old) (I.world io.new) result }
+    ensures told { let batch = known.now.batch.now in let shown = map claim_shown batch.claims.now in
+        let v = bundle_of help.old.sets in
+        IsTelling v batch.budget shown (I.world io.old) (I.world io.new) result }
 {
-    let mut all_yes = true;
+    let mut is_yes = true;
     for number in 0..known.batch.claims.len() {
         match tell_next(known, number, help, workers, io) {
-            Ok(is_yes) => all_yes &= is_yes,
+            Ok(Some(one)) => is_yes &= one,
+            Ok(None) => {
+                return Ok(Telling {
+                    told: number,
+                    is_yes,
+                });
+            }
             Err(fault) => return Err(fault),
         }
     }
-    Ok(all_yes)
+    Ok(Telling {
+        told: known.batch.claims.len(),
+        is_yes,
+    })
 }
 
-/// Tells the claim of a batch that has this number in it.
+/// Tells the claim of a batch that has this number in it, unless words are wanted first: whether it is answered with a yes.
 fn tell_next<H: Threads + Sync, G: Gate + Sync, I: Io>(
     known: &BegunBatch<'_>,
     number: usize,
     help: &mut Help<'_>,
     workers: &Workers<'_, H, G>,
     io: &mut I,
-) -> Result<bool, WriteFault>
+) -> Result<Option<bool>, WriteFault>
     requires number { number < length known.now.batch.now.claims.now }
     requires few { All (λ claim. HasFewLetters (claim_shown claim)) known.now.batch.now.claims.now }
     requires right { let b = known.now.batch.now in
-        AreFoundSoon b.bundle.now b.budget b.claims.now known.now.soon.now }
-    requires bundle { help.old.bundle.now ≡ known.now.batch.now.bundle.now }
-    ensures bundle { help.new.bundle ≡ help.old.bundle }
+        AreFoundSoon (bundle_of b.sets) b.budget b.claims.now known.now.soon.now }
+    requires sets { bundle_of help.old.sets ≡ bundle_of known.now.batch.now.sets }
+    requires unprepared { help.old.prepared ≡ None }
+    ensures sets { help.new.sets ≡ help.old.sets }
+    ensures wanted { IfOk result (λ one.
+        IsWantedIf one (bundle_of help.old.sets) help.new.prepared) }
+    ensures goes_on { help.old.before_words ≡ None
+        → (help.new.before_words ≡ None) × (help.new.prepared ≡ None) }
     ensures same_streams { I.streams io.new ≡ I.streams io.old }
-    ensures told { (other : Claim) → let batch = known.now.batch.now in
+    ensures told { (other : Claim) → let batch = known.now.batch.now in let v = bundle_of help.old.sets in
         let shown = claim_shown (slice_index_or batch.claims.now number other) ∷ [] in
-        AreTold batch.bundle.now batch.budget shown (I.world io.old) (I.world io.new) result }
+        IsToldOrWanted v batch.budget shown (I.world io.old) (I.world io.new) result }
 {
     let batch = known.batch;
     let claims = batch.claims;
@@ -180,8 +244,11 @@ fn tell_next<H: Threads + Sync, G: Gate + Sync, I: Io>(
     match known.soon.get(number) {
         Some(Some(found)) => tell(batch, claim, found, io),
         _ => {
-            let found = help.search(claim, batch.budget, workers);
-            tell(batch, claim, &found, io)
+            let start = &batch.starts[number];
+            match help.search(Posed { claim, start }, batch.budget, workers) {
+                Some(found) => tell(batch, claim, &found, io),
+                None => Ok(None),
+            }
         }
     }
 }
@@ -192,16 +259,17 @@ fn tell<I: Io>(
     claim: &Claim<'_>,
     found: &Finding,
     io: &mut I,
-) -> Result<bool, WriteFault>
+) -> Result<Option<bool>, WriteFault>
     requires few { HasFewLetters (claim_shown claim.now) }
     requires found { let batch = batch.now in let shown = claim_shown claim.now in
-        IsFoundFor batch.bundle.now batch.budget shown found.now }
+        IsFoundFor (bundle_of batch.sets) batch.budget shown found.now }
+    ensures one { IfOk result IsSome }
     ensures same_streams { I.streams io.new ≡ I.streams io.old }
     ensures told { let batch = batch.now in let shown = claim_shown claim.now ∷ [] in
-        AreTold batch.bundle.now batch.budget shown (I.world io.old) (I.world io.new) result }
+        IsToldOrWanted (bundle_of batch.sets) batch.budget shown (I.world io.old) (I.world io.new) result }
 {
     match io.write_text(line_on(claim, found).as_str()) {
-        Ok(()) => Ok(found.is_yes()),
+        Ok(()) => Ok(Some(found.is_yes())),
         Err(fault) => Err(fault),
     }
 }

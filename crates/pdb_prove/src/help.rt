@@ -1,20 +1,21 @@
 //! What helps with hard claims.
 
-ghost use Rattle.std.specs.Prelude.{◌≡◌, IfSome};
+ghost use Rattle.std.specs.Prelude.{◌≡◌, IfSome, None, false};
 ghost use Rattle.std.proofs.Props.{props};
-ghost use Rattle.puz_board.specs.Boards.{side_of};
 ghost use Rattle.claim_text.specs.Shown.{claim_shown};
-ghost use Rattle.puz_walk.specs.WordBundles.{HaveWords};
+ghost use Rattle.puz_search.specs.StoredGuides.{bundle_of};
 ghost use Rattle.pdb_prove.specs.Answers.{IsFoundFor};
+ghost use Rattle.pdb_prove.specs.Posed.{IsPosed};
+ghost use Rattle.pdb_prove.specs.Steps.{IsPreparedFor, IsWantedIf};
 
 use crate::answers::{FEW_BOARDS, Finding, answer_by};
 use crate::counts::Counting;
-use crate::worded::{answer_over, wordable, words_of};
-use claim_text::Claim;
-use edge_words::Words;
+use crate::posed::Posed;
+use crate::prepared::{Prepared, prepare, wordable};
 use move_strings::Automaton;
 use puz_board::Side;
-use puz_search::Guide;
+use puz_search::{Guide, Sets};
+use puz_walk::WordBundle;
 use set_sum::Bundle;
 use std::alloc::Global;
 use std::thread::Threads;
@@ -27,125 +28,160 @@ const LONGEST: u8 = 12;
 /// To make the words of a table takes about as long as to search over sums for one board for each so many of its placements.
 const PLACEMENTS_FOR_A_BOARD: u64 = 3;
 
-/// What leads the searches for hard claims over a bundle. An automaton of strings is made when the first of them wants it, and kept
-/// for the rest. Words are made once the hard claims have been searched for over sums for a third as many boards as the tables have
-/// placements together. Where there is no memory for either, the searches go on without it.
+/// What leads the searches for hard claims over sets. An automaton of strings is made when the first of them wants it, and kept
+/// for the rest. Words are wanted once the hard claims have been searched for over sums for a third as many boards as the tables
+/// have placements together. Where there is no memory for either, the searches go on without it.
 #[derive(Drop)]
 pub(crate) struct Help<'a> {
-    bundle: &'a Bundle<'a>,
-    reversals: &'a Automaton,
+    pub(crate) sets: Sets<'a>,
+    pub(crate) reversals: &'a Automaton,
     /// Whether the automaton of strings was wanted already.
     is_made: bool,
     /// The automaton of strings, where it was made and there was memory for it.
-    strings: Option<Automaton>,
+    pub(crate) strings: Option<Automaton>,
     /// How many boards more may be expanded over sums before words are wanted. None where they were wanted already, or there
     /// can't be any.
     before_words: Option<u64>,
-    /// The words of the tables, where they were made and there was memory for them.
-    words: Option<Vec<Words>>,
-    ghost one_side: { reversals.now.side ≡ bundle.now.side },
-    ghost same_side: { IfSome strings (λ automaton. automaton.side ≡ bundle.now.side) } by { Prim.hlevel props },
-    ghost have_words: { IfSome words (λ words. HaveWords bundle.now words.items) } by { Prim.hlevel props },
+    /// The memory for words, once they are wanted, where there is any.
+    pub(crate) prepared: Option<Prepared>,
+    ghost one_side: { reversals.now.side ≡ (bundle_of sets).side },
+    ghost same_side: { IfSome strings (λ automaton. automaton.side ≡ (bundle_of sets).side) } by { Prim.hlevel props },
 }
 
 impl<'a> Help<'a> {
-    /// Help over a bundle, of which nothing is made yet.
-    pub(crate) fn new(bundle: &'a Bundle<'a>, reversals: &'a Automaton) -> Help<'a>
+    /// Help over the tables of a bundle, of which nothing is made yet. Words may be wanted only where this is said.
+    pub(crate) fn over_tables(
+        bundle: &'a Bundle<'a>,
+        reversals: &'a Automaton,
+        may_want_words: bool,
+    ) -> Help<'a>
         requires { reversals.now.side ≡ bundle.now.side }
-        ensures { result.bundle.now ≡ bundle.now }
+        ensures sets { bundle_of result.sets ≡ bundle.now }
+        ensures unprepared { result.prepared ≡ None }
+        ensures goes_on { may_want_words ≡ false → result.before_words ≡ None }
     {
+        let before_words = if may_want_words {
+            wordable(bundle).map(|count| count / PLACEMENTS_FOR_A_BOARD)
+        } else {
+            None
+        };
         Help {
-            bundle,
+            sets: Sets::Sums(bundle),
             reversals,
             is_made: false,
             strings: None,
-            before_words: wordable(bundle).map(|count| count / PLACEMENTS_FOR_A_BOARD),
-            words: None,
+            before_words,
+            prepared: None,
         }
     }
 
-    /// What is found by all workers for a claim that one thread doesn't find soon.
+    /// Help over the words of the tables, with the automaton of strings where it was made.
+    pub(crate) fn over_words(
+        words: &'a WordBundle<'a>,
+        reversals: &'a Automaton,
+        strings: Option<Automaton>,
+    ) -> Help<'a>
+        requires reversals { reversals.now.side ≡ words.now.side }
+        requires strings { IfSome strings (λ automaton. automaton.side ≡ words.now.side) }
+        ensures sets { bundle_of result.sets ≡ words.now }
+        ensures unprepared { result.prepared ≡ None }
+        ensures goes_on { result.before_words ≡ None }
+    {
+        Help {
+            sets: Sets::Words(words),
+            reversals,
+            is_made: true,
+            strings,
+            before_words: None,
+            prepared: None,
+        }
+    }
+
+    /// What is found by all workers for a claim that one thread doesn't find soon. None where words are wanted first, and the
+    /// memory for them is there.
     pub(crate) fn search<H: Threads + Sync, G: Gate + Sync>(
         &mut self,
-        claim: &Claim<'_>,
-        budget: u64,
-        workers: &Workers<'_, H, G>,
-    ) -> Finding
-        requires { side_of claim.now.board ≡ self.old.bundle.now.side }
-        ensures bundle { self.new.bundle ≡ self.old.bundle }
-        ensures found { IsFoundFor self.old.bundle.now budget (claim_shown claim.now) result }
-    {
-        if budget > FEW_BOARDS {
-            self.make_strings(workers.alloc);
-            if let Some(found) = self.search_before_words(claim, budget, workers) {
-                return found;
-            }
-        }
-        self.answer(claim, budget, workers)
-    }
-
-    /// What is found for a hard claim while no words are wanted. Where they are, they are made.
-    fn search_before_words<H: Threads + Sync, G: Gate + Sync>(
-        &mut self,
-        claim: &Claim<'_>,
+        posed: Posed<'_>,
         budget: u64,
         workers: &Workers<'_, H, G>,
     ) -> Option<Finding>
-        requires { side_of claim.now.board ≡ self.old.bundle.now.side }
-        ensures bundle { self.new.bundle ≡ self.old.bundle }
-        ensures found { let shown = claim_shown claim.now in
-            IfSome result (IsFoundFor self.old.bundle.now budget shown) }
+        requires posed { IsPosed (bundle_of self.old.sets) posed.claim.now posed.start.now }
+        requires unprepared { self.old.prepared ≡ None }
+        ensures sets { self.new.sets ≡ self.old.sets }
+        ensures found { let shown = claim_shown posed.entry.claim.now in
+            IfSome result (IsFoundFor (bundle_of self.old.sets) budget shown) }
+        ensures wanted { IsWantedIf result (bundle_of self.old.sets) self.new.prepared }
+        ensures goes_on { self.old.before_words ≡ None
+            → (self.new.before_words ≡ None) × (self.new.prepared ≡ None) }
     {
-        let left = self.before_words?;
+        if budget > FEW_BOARDS {
+            self.make_strings(workers.alloc);
+            if let Some(left) = self.before_words {
+                let found = self.search_before_words(left, posed, budget, workers);
+                if found.is_some() || self.prepared.is_some() {
+                    return found;
+                }
+            }
+        }
+        Some(self.answer(posed, budget, workers))
+    }
+
+    /// What is found for a hard claim while no words are wanted. Where they are, the memory for them is taken.
+    fn search_before_words<H: Threads + Sync, G: Gate + Sync>(
+        &mut self,
+        left: u64,
+        posed: Posed<'_>,
+        budget: u64,
+        workers: &Workers<'_, H, G>,
+    ) -> Option<Finding>
+        requires posed { IsPosed (bundle_of self.old.sets) posed.claim.now posed.start.now }
+        requires unprepared { self.old.prepared ≡ None }
+        ensures sets { self.new.sets ≡ self.old.sets }
+        ensures found { let shown = claim_shown posed.entry.claim.now in
+            IfSome result (IsFoundFor (bundle_of self.old.sets) budget shown) }
+        ensures wanted { IfSome result (λ found. self.new.prepared ≡ None) }
+        ensures prepared { IfSome self.new.prepared (IsPreparedFor (bundle_of self.old.sets)) }
+    {
         let few = left.min(budget);
         let counting = Counting::new(workers.gate);
         let counted = Workers::new(workers.rt, workers.alloc, workers.count, &counting);
-        let found = self.answer(claim, few, &counted);
+        let found = self.answer(posed, few, &counted);
         if few == budget || !found.is_spent() {
             self.before_words = Some(left.saturating_sub(counting.boards()));
             return Some(found);
         }
         self.before_words = None;
-        self.words = words_of(self.bundle, workers).unwrap_or(None);
+        self.prepared = prepare(self.sets, workers.alloc).unwrap_or(None);
         None
     }
 
     /// Makes the automaton of strings, where it isn't made yet.
     fn make_strings(&mut self, alloc: Global)
-        ensures { self.new.bundle ≡ self.old.bundle }
+        ensures sets { self.new.sets ≡ self.old.sets }
+        ensures prepared { self.new.prepared ≡ self.old.prepared }
+        ensures before_words { self.new.before_words ≡ self.old.before_words }
     {
         if !self.is_made {
-            self.strings = strings_for(alloc, self.bundle.side());
+            self.strings = strings_for(alloc, self.sets.side());
             self.is_made = true;
         }
     }
 
-    /// What is found for a claim within a budget, over words where there are any.
+    /// What is found for a claim within a budget.
     fn answer<H: Threads + Sync, G: Gate + Sync>(
         &self,
-        claim: &Claim<'_>,
+        posed: Posed<'_>,
         budget: u64,
         workers: &Workers<'_, H, G>,
     ) -> Finding
-        requires { side_of claim.now.board ≡ self.now.bundle.now.side }
-        ensures { IsFoundFor self.now.bundle.now budget (claim_shown claim.now) result }
+        requires { IsPosed (bundle_of self.now.sets) posed.claim.now posed.start.now }
+        ensures { IsFoundFor (bundle_of self.now.sets) budget (claim_shown posed.entry.claim.now) result }
     {
-        let automaton = self.automaton();
-        if let Some(words) = &self.words {
-            let tables = (self.bundle, words.as_slice());
-            return answer_over(tables, automaton, claim, budget, workers);
-        }
-        answer_by(&Guide::new(self.bundle, automaton), claim, budget, workers)
-    }
-
-    /// The automaton that leads a search.
-    fn automaton(&self) -> &Automaton
-        ensures { result.now.side ≡ self.now.bundle.now.side }
-    {
-        match &self.strings {
+        let automaton = match &self.strings {
             Some(strings) => strings,
             None => self.reversals,
-        }
+        };
+        answer_by(&Guide::over(self.sets, automaton), posed, budget, workers)
     }
 }
 

@@ -7,10 +7,11 @@ mod counts;
 mod help;
 mod inputs;
 pub mod laws;
+mod posed;
+mod prepared;
 mod ready;
 mod runs;
 mod telling;
-mod worded;
 
 pub use answers::Finding;
 pub use runs::run_prove;

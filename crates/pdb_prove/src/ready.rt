@@ -1,6 +1,6 @@
 //! What is to be known before anything is searched: the claims, the bundle of the tables and the sets, and the automaton of reversals.
 
-ghost use Rattle.std.specs.Prelude.{◌≡◌, ◌≤◌, ◌^◌, Bool, length, map, IfErr, IfNone, IfOk, IfSome};
+ghost use Rattle.std.specs.Prelude.{◌≡◌, ◌≤◌, ◌^◌, Bool, length, map, IfErr, IfNone, IfOk, IfSome, false};
 ghost use Rattle.std.specs.List.{All, AllByRecursion};
 ghost use Rattle.puz_board.specs.Boards.{side_of};
 ghost use Rattle.claim_text.specs.Lines.{HasFewLetters};
@@ -10,13 +10,16 @@ ghost use Rattle.pdb_run.specs.Answers.{digest_lines};
 ghost use Rattle.pdb_run.specs.Writing.{digests_of};
 ghost use Rattle.pdb_verdict.specs.FileBundles.{IsReadBundle};
 ghost use Rattle.pdb_prove.specs.Prove.{AreReady, ClaimsFiles, IsFirstOfAnotherSide, digested_files};
-ghost use Rattle.pdb_prove.specs.Steps.{IsCauseForClaims, files_read, of_claims};
+ghost use Rattle.pdb_prove.specs.Posed.{ArePosed};
+ghost use Rattle.pdb_prove.specs.Steps.{IsCauseForClaims, files_read, given_files, of_claims};
 
+use crate::posed::starts_over;
 use claim_text::{Claim, ClaimsFault, MOST_CLAIMS, read_claims};
 use move_strings::Automaton;
 use pdb_request::Prove;
 use pdb_run::Digested;
-use pdb_verdict::{Bundling, Fault, over_tables};
+use pdb_verdict::{Bundling, Fault, over_full_tables, over_tables};
+use puz_walk::Start;
 use set_sum::Bundle;
 use std::alloc::Global;
 use std::convert::identity;
@@ -28,9 +31,11 @@ use work_run::{Gate, Workers};
 #[derive(Drop)]
 pub(crate) struct Ready<'b, 'c> {
     pub(crate) claims: Vec<Claim<'c>>,
+    /// The start for each claim.
+    pub(crate) starts: Vec<Start>,
     pub(crate) bundle: Bundle<'b>,
     pub(crate) reversals: Automaton,
-    ghost sides: { All (λ claim. side_of claim.board ≡ bundle.side) claims.items },
+    ghost posed: { ArePosed bundle claims.items starts.items },
     ghost one_side: { reversals.side ≡ bundle.side },
 }
 
@@ -68,6 +73,33 @@ pub(crate) fn make_ready<'i, H: Threads + Wait + Sync, G: Gate + Sync>(
     }
 }
 
+/// The same over full tables, whose files are only borrowed.
+pub(crate) fn make_full_ready<'i, 'c, H: Threads + Wait + Sync, G: Gate + Sync>(
+    text: &'c [u8],
+    sets: &[u8],
+    tables: &'i [Vec<u8>],
+    workers: &Workers<'_, H, G>,
+) -> (Digested<'i>, Result<Ready<'i, 'c>, Fault>)
+where
+    'c: 'i,
+    ensures digested { let files = given_files text.now sets.now tables.now in
+        digest_lines result.0 ≡ digests_of (digested_files files) }
+    ensures ready { let files = given_files text.now sets.now tables.now in IfOk result.1
+        (λ ready. AreReady false files (map claim_shown ready.claims.items) ready.bundle) }
+    ensures few { IfOk result.1
+        (λ ready. All (λ claim. HasFewLetters (claim_shown claim)) ready.claims.items) }
+    ensures fault { IfErr result.1
+        (IsCauseForClaims false (given_files text.now sets.now tables.now)) }
+{
+    match read_claims(workers.alloc, text) {
+        Ok(claims) => {
+            let (digested, bundle) = over_full_tables(tables, Some(text), sets, workers, identity);
+            (digested, ready_with(workers.alloc, claims, bundle))
+        }
+        Err(fault) => (Digested::Files(tables, Some(text)), Err(of_claims(fault))),
+    }
+}
+
 /// Why nothing is searched, where a text gives no claims.
 fn of_claims(fault: ClaimsFault) -> Fault
     ensures { result ≡ of_claims fault }
@@ -100,8 +132,10 @@ fn ready_with<'b, 'c>(
     match first_of_another_side(claims.as_slice(), &bundle) {
         None => {
             let reversals = Automaton::of_reversals(alloc, bundle.side())?;
+            let starts = starts_over(alloc, claims.as_slice(), &bundle)?;
             Ok(Ready {
                 claims,
+                starts,
                 bundle,
                 reversals,
             })

@@ -1,23 +1,35 @@
 //! A run of `prove`.
 
-ghost use Rattle.std.specs.Prelude.{◌≡◌, map};
+ghost use Rattle.std.specs.Prelude.{◌≡◌, IfErr, IfOk, IfSome, MatchOption, MatchResult, None, Ok, Some, false, length, map};
 ghost use Rattle.std.specs.List.{All};
 ghost use Rattle.claim_text.specs.Lines.{HasFewLetters};
 ghost use Rattle.claim_text.specs.Shown.{claim_shown};
+ghost use Rattle.set_sum.specs.Bundles.{ShownBundle};
+ghost use Rattle.puz_walk.specs.WordBundles.{HaveWords};
+ghost use Rattle.byte_io.specs.Shelf.{Bytes};
 ghost use Rattle.pdb_request.specs.Asked.{prove_shown};
-ghost use Rattle.pdb_run.specs.Answers.{answer_text, digest_lines};
-ghost use Rattle.pdb_run.specs.Io.{HasRead};
+ghost use Rattle.pdb_run.specs.Answers.{all_bytes, answer_text, digest_lines};
+ghost use Rattle.pdb_run.specs.Io.{HasRead, IsWritten};
 ghost use Rattle.pdb_run.specs.Runs.{World, status_of_reply};
 ghost use Rattle.pdb_run.specs.Writing.{digests_of};
+ghost use Rattle.pdb_verdict.specs.FileBundles.{IsBundleOfFiles};
+ghost use Rattle.pdb_prove.specs.Posed.{ArePosed};
 ghost use Rattle.pdb_prove.specs.Prove.{AreReady, ClaimsFiles, ProveEnds, budget_of, digested_files, in_order, prove_inputs};
-ghost use Rattle.pdb_prove.specs.Steps.{IsCauseForClaims};
+ghost use Rattle.pdb_prove.specs.Steps.{AreCut, AreTold, IsCauseForClaims, IsPreparedFor, IsToldTo, IsWantedFor, files_read};
 
-use crate::batches::tell_all;
+use crate::batches::{Asked, Telling, tell_claims};
+use crate::help::Help;
 use crate::inputs::{Proving, with_bytes};
-use crate::ready::{Ready, make_ready};
+use crate::prepared::Prepared;
+use crate::ready::{Ready, make_full_ready, make_ready};
+use byte_io::streams::WriteFault;
+use claim_text::Claim;
+use edge_words::Words;
+use move_strings::Automaton;
 use pdb_request::Prove;
 use pdb_run::{AnswerLines, CommandAnswer, Digested, Io, Status, conclude, read_inputs};
 use pdb_verdict::{Fault, told_or_memory};
+use puz_walk::{Outline, Start, WordBundle};
 use std::sync::Wait;
 use std::thread::Threads;
 use work_run::{Gate, Workers};
@@ -34,14 +46,241 @@ pub fn run_prove<H: Threads + Wait + Sync, G: Gate + Sync, I: Io>(
     ensures ends { ProveEnds (prove_shown prove.now) (I.world io.old) (I.world io.new) result }
 {
     let command = Proving(prove);
-    let mut read = match read_inputs(workers.alloc, &command, io) {
+    let read = match read_inputs(workers.alloc, &command, io) {
         Ok(inputs) => with_bytes(prove, inputs),
         Err(status) => return status,
     };
+    if read.fold {
+        run_folded(&command, read, workers, io)
+    } else {
+        run_full(&command, read, workers, io)
+    }
+}
+
+/// The rest of a run over the inputs that were read, where the tables are folded.
+fn run_folded<H: Threads + Wait + Sync, G: Gate + Sync, I: Io>(
+    command: &Proving<'_, '_>,
+    read: Prove<Vec<u8>, Vec<u8>>,
+    workers: &Workers<'_, H, G>,
+    io: &mut I,
+) -> Status
+    ensures same_streams { I.streams io.new ≡ I.streams io.old }
+    ensures ends { let arguments = prove_shown command.now.0.now in (old : World)
+        → HasRead (prove_inputs arguments) old (I.world io.old) (in_order (files_read read))
+        → read.fold ≡ arguments.fold → ProveEnds arguments old (I.world io.new) result }
+{
+    let mut read = read;
     let (digested, ready) = make_ready(&mut read, workers);
-    match &ready {
-        Ok(ready) => answer_claims(&command, digested, ready, workers, io),
-        Err(fault) => tell_fault(&command, digested, *fault, io),
+    let ready = match begin(command, digested, ready, io) {
+        Ok(ready) => ready,
+        Err(status) => return status,
+    };
+    match tell_over_tables(&ready, false, budget_of(command.0), workers, io) {
+        Ok((telling, _)) => status_of(telling.is_yes),
+        Err(_) => Status::Fault,
+    }
+}
+
+/// The rest of a run over the inputs that were read, where the tables are full. Once words are wanted and there is memory for them,
+/// the bundle is given up, and then the bytes of each table as its words are made.
+fn run_full<H: Threads + Wait + Sync, G: Gate + Sync, I: Io>(
+    command: &Proving<'_, '_>,
+    read: Prove<Vec<u8>, Vec<u8>>,
+    workers: &Workers<'_, H, G>,
+    io: &mut I,
+) -> Status
+    ensures same_streams { I.streams io.new ≡ I.streams io.old }
+    ensures ends { let arguments = prove_shown command.now.0.now in (old : World)
+        → HasRead (prove_inputs arguments) old (I.world io.old) (in_order (files_read read))
+        → arguments.fold ≡ false → ProveEnds arguments old (I.world io.new) result }
+{
+    let Prove {
+        claims: text,
+        sets,
+        tables,
+        ..
+    } = read;
+    let (text, sets) = (text.as_slice(), sets.as_slice());
+    let (digested, ready) = make_full_ready(text, sets, tables.as_slice(), workers);
+    let ready = match begin(command, digested, ready, io) {
+        Ok(ready) => ready,
+        Err(status) => return status,
+    };
+    let budget = budget_of(command.0);
+    let (telling, wanted) = match tell_over_tables(&ready, true, budget, workers, io) {
+        Ok(told) => told,
+        Err(_) => return Status::Fault,
+    };
+    let Some(wanted) = wanted else {
+        return status_of(telling.is_yes);
+    };
+    let (claims, starts, reversals) = without_bundle(ready);
+    let worded = wanted.fill(tables, workers);
+    let asked = Asked {
+        claims: &claims.as_slice()[telling.told..],
+        starts: &starts.as_slice()[telling.told..],
+        first: telling.told as u64,
+        budget,
+    };
+    match tell_over_words(asked, worded, &reversals, workers, io) {
+        Ok(is_yes) => status_of(telling.is_yes & is_yes),
+        Err(_) => Status::Fault,
+    }
+}
+
+/// The claims, their starts and the automaton of reversals. The bundle is given up.
+fn without_bundle<'c>(ready: Ready<'_, 'c>) -> (Vec<Claim<'c>>, Vec<Start>, Automaton)
+    ensures claims { result.0 ≡ ready.entry.claims }
+    ensures starts { result.1 ≡ ready.entry.starts }
+    ensures reversals { result.2 ≡ ready.entry.reversals }
+    ensures posed { ArePosed ready.entry.bundle ready.entry.claims.items ready.entry.starts.items }
+    ensures side { ready.entry.reversals.side ≡ ready.entry.bundle.side }
+{
+    (ready.claims, ready.starts, ready.reversals)
+}
+
+/// The memory for words that are wanted, and the automaton of strings where it was made.
+#[derive(Drop)]
+struct Wanted {
+    prepared: Prepared,
+    strings: Option<Automaton>,
+}
+
+/// The words of the tables of a bundle, with what a search over them needs besides.
+#[derive(Drop)]
+struct Worded {
+    outline: Outline,
+    words: Vec<Words>,
+    strings: Option<Automaton>,
+}
+
+impl Wanted {
+    /// The words of the tables of these files.
+    fn fill<R: Threads + Sync, G>(self, files: Vec<Vec<u8>>, workers: &Workers<'_, R, G>) -> Worded
+        requires { (sets : Bytes) × (v : ShownBundle)
+            × IsBundleOfFiles false (all_bytes files.items) sets v × IsPreparedFor v self.prepared }
+        ensures outline { result.outline ≡ self.prepared.outline }
+        ensures words { (sets : Bytes) (v : ShownBundle)
+            → IsBundleOfFiles false (all_bytes files.items) sets v
+            → IsPreparedFor v self.prepared → HaveWords v result.words.items }
+        ensures strings { result.strings ≡ self.strings }
+    {
+        let Wanted { prepared, strings } = self;
+        let (outline, words) = prepared.fill(files, workers);
+        Worded {
+            outline,
+            words,
+            strings,
+        }
+    }
+}
+
+/// Tells the claims in their order over the tables of a bundle, until words are wanted and there is memory for them. They may be
+/// wanted only where this is said.
+fn tell_over_tables<H: Threads + Sync, G: Gate + Sync, I: Io>(
+    ready: &Ready<'_, '_>,
+    may_want_words: bool,
+    budget: u64,
+    workers: &Workers<'_, H, G>,
+    io: &mut I,
+) -> Result<(Telling, Option<Wanted>), WriteFault>
+    requires few { All (λ claim. HasFewLetters (claim_shown claim)) ready.now.claims.items }
+    ensures wanted { IfOk result (λ told. MatchOption told.1
+        (told.0.told ≡ length ready.now.claims.items) (IsWantedFor ready.now.bundle)) }
+    ensures goes_on { may_want_words ≡ false
+        → IfOk result (λ told. told.0.told ≡ length ready.now.claims.items) }
+    ensures same_streams { I.streams io.new ≡ I.streams io.old }
+    ensures told { let shown = map claim_shown ready.now.claims.items in
+        MatchResult result
+        (λ told. IsToldTo ready.now.bundle budget shown (I.world io.old) (I.world io.new) told.0)
+        (λ _. AreCut ready.now.bundle budget (I.world io.old) (I.world io.new) shown) }
+{
+    let asked = Asked {
+        claims: ready.claims.as_slice(),
+        starts: ready.starts.as_slice(),
+        first: 0,
+        budget,
+    };
+    let mut help = Help::over_tables(&ready.bundle, &ready.reversals, may_want_words);
+    match tell_claims(asked, &mut help, workers, io) {
+        Ok(telling) => Ok((telling, wanted_by(help))),
+        Err(fault) => Err(fault),
+    }
+}
+
+/// What help has prepared, if anything, with its automaton of strings.
+fn wanted_by(help: Help<'_>) -> Option<Wanted>
+    ensures { let help = help.entry in MatchOption result (help.prepared ≡ None)
+        (λ wanted. (help.prepared ≡ Some wanted.prepared) × (wanted.strings ≡ help.strings)) }
+{
+    let Help {
+        prepared,
+        strings,
+        ..
+    } = help;
+    let prepared = prepared?;
+    Some(Wanted { prepared, strings })
+}
+
+/// Tells claims in their order over words: whether all of them are answered with a yes.
+fn tell_over_words<H: Threads + Sync, G: Gate + Sync, I: Io>(
+    asked: Asked<'_>,
+    worded: Worded,
+    reversals: &Automaton,
+    workers: &Workers<'_, H, G>,
+    io: &mut I,
+) -> Result<bool, WriteFault>
+    requires few { All (λ claim. HasFewLetters (claim_shown claim)) asked.claims.now }
+    requires posed { ArePosed worded.outline asked.claims.now asked.starts.now }
+    requires words { HaveWords worded.outline worded.words.items }
+    requires reversals { reversals.now.side ≡ worded.outline.side }
+    requires strings { IfSome worded.strings (λ strings. strings.side ≡ worded.outline.side) }
+    ensures same_streams { I.streams io.new ≡ I.streams io.old }
+    ensures told { let shown = map claim_shown asked.entry.claims.now in
+        AreTold worded.outline asked.entry.budget shown (I.world io.old) (I.world io.new) result }
+{
+    let Worded {
+        outline,
+        words,
+        strings,
+    } = worded;
+    let Some(bundle) = WordBundle::of(&outline, words.as_slice()) else {
+        unreachable!();
+    };
+    let mut help = Help::over_words(&bundle, reversals, strings);
+    match tell_claims(asked, &mut help, workers, io) {
+        Ok(telling) => Ok(telling.is_yes),
+        Err(fault) => Err(fault),
+    }
+}
+
+/// Tells the digests where all is ready, and else why nothing is searched.
+fn begin<'b, 'c, I: Io>(
+    command: &Proving<'_, '_>,
+    digested: Digested<'b>,
+    ready: Result<Ready<'b, 'c>, Fault>,
+    io: &mut I,
+) -> Result<Ready<'b, 'c>, Status>
+    ensures same_streams { I.streams io.new ≡ I.streams io.old }
+    ensures ready { IfOk result (λ begun. ready.entry ≡ Ok begun) }
+    ensures begun { IfOk result (λ begun. IsWritten (digest_lines digested.entry)
+        (I.world io.old) (I.world io.new) (Ok tt)) }
+    ensures ended { IfErr result (λ status. let arguments = prove_shown command.now.0.now in
+        (files : ClaimsFiles) (old : World)
+        → HasRead (prove_inputs arguments) old (I.world io.old) (in_order files)
+        → digest_lines digested.entry ≡ digests_of (digested_files files)
+        → IfOk ready.entry (λ begun.
+        AreReady arguments.fold files (map claim_shown begun.claims.items) begun.bundle)
+        → IfErr ready.entry (IsCauseForClaims arguments.fold files)
+        → ProveEnds arguments old (I.world io.new) status) }
+{
+    let ready = match ready {
+        Ok(ready) => ready,
+        Err(fault) => return Err(tell_fault(command, digested, fault, io)),
+    };
+    match io.write_answer(&digests_alone(digested)) {
+        Ok(()) => Ok(ready),
+        Err(_) => Err(Status::Fault),
     }
 }
 
@@ -61,33 +300,6 @@ fn tell_fault<I: Io>(
         → ProveEnds arguments old (I.world io.new) result }
 {
     conclude(command, &told_or_memory(digested, Err(fault)), io)
-}
-
-/// Tells the digests, and then the answer to each claim.
-fn answer_claims<H: Threads + Wait + Sync, G: Gate + Sync, I: Io>(
-    command: &Proving<'_, '_>,
-    digested: Digested<'_>,
-    ready: &Ready<'_, '_>,
-    workers: &Workers<'_, H, G>,
-    io: &mut I,
-) -> Status
-    requires few { All (λ claim. HasFewLetters (claim_shown claim)) ready.now.claims.items }
-    ensures same_streams { I.streams io.new ≡ I.streams io.old }
-    ensures ends { let arguments = prove_shown command.now.0.now in
-        (files : ClaimsFiles) (old : World)
-        → HasRead (prove_inputs arguments) old (I.world io.old) (in_order files)
-        → digest_lines digested.entry ≡ digests_of (digested_files files)
-        → AreReady arguments.fold files (map claim_shown ready.now.claims.items) ready.now.bundle
-        → ProveEnds arguments old (I.world io.new) result }
-{
-    let Ok(()) = io.write_answer(&digests_alone(digested)) else {
-        return Status::Fault;
-    };
-    let budget = budget_of(command.0);
-    match tell_all(ready, budget, workers, io) {
-        Ok(is_yes) => status_of(is_yes),
-        Err(_) => Status::Fault,
-    }
 }
 
 /// The status of a run in which all claims were answered, each with a yes or not.

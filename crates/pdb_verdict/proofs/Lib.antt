@@ -3,6 +3,7 @@ pub mod BundleLemmas
 mod CheckLemmas
 pub mod ClaimLemmas
 mod FoldingLemmas
+pub mod FullTableLemmas
 pub mod ReadLemmas
 pub mod RefusalLemmas
 pub mod ReplayLemmas

@@ -6,6 +6,7 @@ mod bundles;
 mod checks;
 mod claims;
 mod inputs;
+mod known;
 mod laws;
 mod limits;
 mod lines;
@@ -22,6 +23,7 @@ pub use bundles::Bundling;
 pub use checks::verify;
 pub use claims::optimum_over;
 pub use inputs::Inputs;
+pub use known::known_table;
 pub use laws::{
     inputs_have_a_result, inputs_have_one_result, results_are_true_verdicts,
     tables_told_no_are_not_exact, told_yeses_are_true, true_verdicts_hold_of_solutions,
@@ -34,5 +36,5 @@ pub use replay_command::run_replay;
 pub use reports::{digests, line, report, settled, told, told_or_memory};
 pub use table::verify_table;
 pub use table_command::run_table;
-pub use tables::over_tables;
+pub use tables::{over_full_tables, over_tables};
 pub use verdicts::{Fault, Verdict};

@@ -1,6 +1,6 @@
 //! What is found over the tables of a command, and their digest lines.
 
-ghost use Rattle.std.specs.Prelude.{◌≡◌, ◌≤◌, ◌+◌, ◌++◌, true, length, IfErr, IfOk, MatchResult};
+ghost use Rattle.std.specs.Prelude.{◌≡◌, ◌≤◌, ◌+◌, ◌++◌, false, true, length, IfErr, IfOk, MatchResult};
 ghost use Rattle.pdb_run.specs.Answers.{all_bytes, digest_lines};
 ghost use Rattle.pdb_run.specs.Writing.{all_files, digest_line, digests_of};
 ghost use Rattle.pdb_verdict.specs.FileBundles.{IfRead, IsReadAnd};
@@ -54,7 +54,51 @@ where
         };
         return (Digested::Lines(digests), found);
     }
-    let files = files.as_slice();
+    over_kept(files.as_slice(), last, bundling, workers, find)
+}
+
+/// As `over_tables` where no table is folded. The files are only borrowed, so that a caller can give up their bytes once neither
+/// what is found nor the digest lines are needed.
+pub fn over_full_tables<'t, H, G, A, F>(
+    files: &'t [Vec<u8>],
+    last: Option<&'t [u8]>,
+    sets: &[u8],
+    workers: &Workers<'_, H, G>,
+    find: F,
+) -> (Digested<'t>, A)
+where
+    H: Threads + Wait + Sync,
+    G: Gate + Sync,
+    F: FnOnce(Result<Bundle<'t>, Fault>) -> A,
+    requires { IfRead false (all_bytes files.now) sets.now (F.pre find) }
+    ensures digested { let all = all_files files.entry.now last.entry in
+        digest_lines result.0 ≡ digests_of all }
+    ensures found { IsReadAnd false (all_bytes files.entry.now) sets.entry.now
+        (λ read. F.post find read result.1) }
+{
+    let bundling = Bundling { sets, fold: false };
+    over_kept(files, last, bundling, workers, find)
+}
+
+/// As `over_tables` where the bytes of all files stay.
+fn over_kept<'t, H, G, A, F>(
+    files: &'t [Vec<u8>],
+    last: Option<&'t [u8]>,
+    bundling: Bundling<'_>,
+    workers: &Workers<'_, H, G>,
+    find: F,
+) -> (Digested<'t>, A)
+where
+    H: Threads + Wait + Sync,
+    G: Gate + Sync,
+    F: FnOnce(Result<Bundle<'t>, Fault>) -> A,
+    requires { IfRead bundling.fold (all_bytes files.now) bundling.sets.now (F.pre find) }
+    ensures digested { let all = all_files files.entry.now last.entry in
+        digest_lines result.0 ≡ digests_of all }
+    ensures found { let sets = bundling.entry.sets.now in
+        IsReadAnd bundling.entry.fold (all_bytes files.entry.now) sets
+        (λ read. F.post find read result.1) }
+{
     let check = || -> A
         requires { IfRead bundling.fold (all_bytes files.now) bundling.sets.now (F.pre find) }
         ensures { let sets = bundling.entry.sets.now in

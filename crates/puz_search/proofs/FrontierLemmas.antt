@@ -90,8 +90,8 @@ module _ (s : Search) where
       → IsFrontier s frontier
   frontier_first node frontier first led items none =
       let Says : Prefix → List ℕ → ℕ → ℕ → Type 0 = λ x b state r. IsMore (prefix_fails s.guide.now x r b state) (all_fail s (node ∷ [])) 0 in
-      let counts : Says s.prefix s.board.now 0 s.bound =
-      subst (Says s.prefix s.board.now 0) first.bound (subst (λ a. Says s.prefix s.board.now a node.bound) first.state
+      let counts : Says s.prefix s.start.now.board 0 s.bound =
+      subst (Says s.prefix s.start.now.board 0) first.bound (subst (λ a. Says s.prefix s.start.now.board a node.bound) first.state
       (subst (λ b. Says s.prefix b node.state node.bound) first.board (subst (λ x. Says x node.board node.state node.bound) first.prefix (all_one s node)))) in
       let most : most_of frontier.nodes.items ≡ most_boards node.bound + 0 = ap most_of items in
       let same : most_boards node.bound ≡ most_boards s.bound = ap most_boards first.bound in

@@ -7,12 +7,11 @@ use Rattle.puz_board.specs.declared.moves.Move.{Move}
 use Rattle.puz_board.specs.declared.moves.Move.TheVariants.{Up, Down, Left, Right}
 use Rattle.puz_search.specs.Frontiers.{Adds, IsMore, child_fails_of}
 use Rattle.puz_search.specs.Guides.{ShownGuide, automaton_of}
-use Rattle.puz_search.specs.Nodes.{IsLed, IsPartAnswer, node_fails, solves_below, solves_first, walk_to}
-use Rattle.puz_search.specs.Openness.{IsWalkTo}
+use Rattle.puz_search.specs.Nodes.{IsLed, IsPartAnswer, IsWalkTo, node_fails, solves_below, solves_first, walk_to}
 use Rattle.puz_search.specs.Prefixes.{IsInside, IsOutside, next_ahead, next_rank, part_of}
 use Rattle.puz_search.specs.Outcomes.{IsTrail, bound_at, guide_at, prefix_fails_at, walk_at}
 use Rattle.move_strings.specs.Automata.{left_out, next_at}
-use Rattle.puz_walk.specs.Walks.{IsClosed, IsCutOff, ShownWalk}
+use Rattle.puz_walk.specs.Walks.{IsClosed, IsCutOff, LeadsNowhere, ShownWalk}
 use Rattle.puz_search.specs.Searches.{InTurn, PartFails, leaves_out, most_boards}
 use Rattle.puz_search.specs.declared.answers.SearchAnswer.{SearchAnswer}
 use Rattle.puz_search.specs.declared.answers.SearchAnswer.TheVariants.{Refuted, Solved, Spent}
@@ -20,16 +19,16 @@ use Rattle.puz_search.specs.declared.nodes.Node.{Node}
 use Rattle.puz_search.specs.declared.searches.Search.{Search}
 use Rattle.puz_search.specs.declared.walks.Reached.{Reached}
 use Rattle.puz_search.proofs.CountLemmas.{adds_as, adds_both}
-use Rattle.puz_search.proofs.FailLemmas.{at_child, at_out, part_closed, part_open, part_outside}
+use Rattle.puz_search.proofs.FailLemmas.{at_child, at_nowhere, at_out, part_closed, part_open, part_outside}
 use Rattle.puz_search.proofs.TrailLemmas.{trail_move}
 use Rattle.puz_search.proofs.WalkLemmas.{most_open}
 
 -- the letters behind a move of a node
 pub led_after : (s : Search) (node : Node) (move : Move) (next : List ℕ) (letter : ℕ) (text : List ℕ) → IsLed s node → 1 ≤ node.bound
     → moved node.board move ≡ Some next → move_of_letter letter ≡ Some move
-    → IsTrail next (node.bound - 1) text → IsTrail s.board.now s.bound ((node.letters.items ++ letter ∷ []) ++ text)
+    → IsTrail next (node.bound - 1) text → IsTrail s.start.now.board s.bound ((node.letters.items ++ letter ∷ []) ++ text)
 led_after s node move next letter text led some leads names trail =
-    subst (IsTrail s.board.now s.bound) (sym (append_assoc node.letters.items (letter ∷ []) text))
+    subst (IsTrail s.start.now.board s.bound) (sym (append_assoc node.letters.items (letter ∷ []) text))
     (led.leads (letter ∷ text) (trail_move node.board next node.bound letter text move some leads names trail))
 
 -- what a search below a node answers, said of the first board
@@ -37,7 +36,7 @@ pub node_answer : (s : Search) (node : Node) → IsLed s node → (Part : ℕ �
     → IsPartAnswer Part most (solves_below node) budget answer
     → IsPartAnswer Part most (solves_first s) budget answer
 node_answer s node led Part most budget (Refuted boards) is = is
-node_answer s node led Part most budget (Solved letters) is = (subst (IsTrail s.board.now s.bound) (sym is.0.2) (led.leads is.0.0 is.0.1), is.1)
+node_answer s node led Part most budget (Solved letters) is = (subst (IsTrail s.start.now.board s.bound) (sym is.0.2) (led.leads is.0.0 is.0.1), is.1)
 node_answer s node led Part most budget Spent is = is
 
 -- ---- a node that is reached
@@ -97,6 +96,12 @@ pub child_out : (s : Search) (node : Node) (move : Move) → next_at s.guide.now
 child_out s node move out n =
     at_out (moved node.board move) (leaves_out s.guide.now.steps node.state move) (NextFails s node move)
     (eq-eqb (next_at s.guide.now.steps node.state move) left_out out) n
+
+-- where the move leads to no board that is open
+pub child_nowhere : (s : Search) (node : Node) (move : Move) → LeadsNowhere (walk_to s node) move → (n : ℕ) → child_fails_of s node move n ↔ (n ≡ 0)
+child_nowhere s node move none n =
+    at_nowhere s.guide.now (part_of node.prefix) (next_ahead node.prefix.ahead) (next_rank node.prefix.ahead node.prefix.rank move) (node.bound - 1)
+    (moved node.board move) (leaves_out s.guide.now.steps node.state move) (next_at s.guide.now.steps node.state move) none n
 
 module _ (s : Search) (node child : Node) (move : Move) (next : List ℕ) (leads : moved node.board move ≡ Some next)
     (on : leaves_out s.guide.now.steps node.state move ≡ false)

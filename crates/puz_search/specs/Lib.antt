@@ -7,7 +7,6 @@ pub mod Searches
 pub mod StoredGuides
 -- What proofs alone need.
 pub mod Prefixes
-pub mod Openness
 pub mod Outcomes
 pub mod Nodes
 pub mod Frontiers

@@ -1,8 +1,9 @@
 -- Nodes: boards of a search, below which is still to be searched.
-use Rattle.std.specs.Prelude.{◌≡◌, ℕ, ◌+◌, ◌<◌, ◌≤◌, List, ◌++◌, length}
+use Rattle.std.specs.Prelude.{◌≡◌, ℕ, ◌+◌, ◌<◌, ◌≤◌, List, ◌++◌, length, IfNone, IfSome, Option}
 use Rattle.puz_board.specs.Boards.{IsBoardOf}
 use Rattle.move_strings.specs.Automata.{IsState}
-use Rattle.puz_walk.specs.Walks.{ShownWalk}
+use Rattle.puz_walk.specs.Starts.{AreSumsOn}
+use Rattle.puz_walk.specs.Walks.{IsClosed, ShownWalk}
 use Rattle.puz_search.specs.Outcomes.{IsTrail}
 use Rattle.puz_search.specs.Prefixes.{prefix_fails}
 use Rattle.puz_search.specs.declared.answers.SearchAnswer.{SearchAnswer}
@@ -16,18 +17,20 @@ node_fails s node boards = prefix_fails s.guide.now node.prefix node.bound node.
 
 -- the whole search fails, and expands so many boards
 abbrev pub search_fails : Search → ℕ → Type 0
-search_fails s boards = prefix_fails s.guide.now s.prefix s.bound s.board.now 0 boards
+search_fails s boards = prefix_fails s.guide.now s.prefix s.bound s.start.now.board 0 boards
 
 -- the node is that of the first board
 pub record IsFirst (s : Search) (node : Node) : Type 0 where
-  pub board : node.board ≡ s.board.now
+  pub board : node.board ≡ s.start.now.board
   pub state : node.state ≡ 0
   pub bound : node.bound ≡ s.bound
   pub prefix : node.prefix ≡ s.prefix
 
--- the board is of the bundle's side, in a state of the automaton, and has just the bound that is left after the moves of the letters
+-- the board is of the bundle's side, has these sums, is in a state of the automaton, and has just the bound that is left after the
+-- moves of the letters
 pub record IsPlaced (s : Search) (node : Node) : Type 0 where
   pub board : IsBoardOf s.guide.now.bundle.side node.board
+  pub sums : AreSumsOn s.guide.now.bundle node.board node.sums
   pub state : IsState s.guide.now.steps node.state
   pub left : length node.letters.items + node.bound ≡ s.bound
 
@@ -35,10 +38,14 @@ pub record IsPlaced (s : Search) (node : Node) : Type 0 where
 abbrev pub walk_to : Search → Node → ShownWalk
 walk_to s node = record { bundle = s.guide.now.bundle; board = node.board; bound = node.bound }
 
+-- a walk of which this is seen, or none where it would be closed
+abbrev pub IsWalkTo : {W : Type 0} → (W → ShownWalk) → ShownWalk → Option W → Type 0
+IsWalkTo shown w walk = IfSome walk (λ walk. shown walk ≡ w) × IfNone walk (IsClosed w.bundle w.board w.bound)
+
 -- the letters lead from the first board to that of the node: with the letters of a trail from there they are a trail
 pub record IsLed (s : Search) (node : Node) : Type 0 where
   pub placed : IsPlaced s node
-  pub leads : (text : List ℕ) → IsTrail node.board node.bound text → IsTrail s.board.now s.bound (node.letters.items ++ text)
+  pub leads : (text : List ℕ) → IsTrail node.board node.bound text → IsTrail s.start.now.board s.bound (node.letters.items ++ text)
 
 -- the letters are those of the node, and then those of a solution below it
 abbrev pub solves_below : Node → List ℕ → Type 0
@@ -46,7 +53,7 @@ solves_below node letters = (text : List ℕ) × IsTrail node.board node.bound t
 
 -- the letters are those of a solution of the first board, of fewer moves than the bound
 abbrev pub solves_first : Search → List ℕ → Type 0
-solves_first s letters = IsTrail s.board.now s.bound letters
+solves_first s letters = IsTrail s.start.now.board s.bound letters
 
 -- what a part of a search answers within a budget: these say with how many boards it fails, at most so many, and what its
 -- solutions are; where it finds one it doesn't fail

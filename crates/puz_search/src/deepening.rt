@@ -1,14 +1,14 @@
 //! Shortest solutions by iterative deepening (Korf 1985).
 
 ghost use Rattle.std.specs.Prelude.{◌≡◌, IfOk};
-ghost use Rattle.puz_board.specs.Boards.{side_of};
+ghost use Rattle.puz_walk.specs.Starts.{IsStart};
 ghost use Rattle.puz_search.specs.Answers.{IsDeepened};
 
 use crate::answers::{Letters, SearchAnswer};
 use crate::guides::Guide;
 use crate::refuting::refute;
 use crate::sharing::refute_by;
-use puz_board::Board;
+use puz_walk::Start;
 use std::alloc::AllocError;
 use std::thread::Threads;
 use work_run::{Gate, Workers};
@@ -31,16 +31,14 @@ pub enum Deepened {
 ///
 /// The first threshold is one more than the parity that all solutions of the board have, and each next one two more: below a
 /// threshold `refute` searches.
-pub fn shortest(guide: &Guide<'_>, board: &Board, budget: u64) -> Deepened
-    requires { side_of board.now ≡ guide.now.bundle.side }
-    ensures { IsDeepened guide.now board.now budget result }
+pub fn shortest(guide: &Guide<'_>, start: &Start, budget: u64) -> Deepened
+    requires { IsStart guide.now.bundle start.now }
+    ensures { IsDeepened guide.now start.now.board budget result }
 {
-    // Asked only for what its contract says.
-    let _side = board.side();
-    let mut bound = board.blank_parity();
+    let mut bound = start.board.blank_parity();
     let mut left = budget;
     while bound < LARGEST_BOUND {
-        match refute(guide, board, bound + 1, left) {
+        match refute(guide, start, bound + 1, left) {
             SearchAnswer::Refuted(boards) => {
                 left -= boards;
                 bound += 2;
@@ -55,18 +53,17 @@ pub fn shortest(guide: &Guide<'_>, board: &Board, budget: u64) -> Deepened
 /// Searches as `shortest` does, by these workers at once: below a threshold `refute_by` searches.
 pub fn shortest_by<R: Threads + Sync, G: Gate + Sync>(
     guide: &Guide<'_>,
-    board: &Board,
+    start: &Start,
     budget: u64,
     workers: &Workers<'_, R, G>,
 ) -> Result<Deepened, AllocError>
-    requires { side_of board.now ≡ guide.now.bundle.side }
-    ensures { IfOk result (IsDeepened guide.now board.now budget) }
+    requires { IsStart guide.now.bundle start.now }
+    ensures { IfOk result (IsDeepened guide.now start.now.board budget) }
 {
-    let _side = board.side();
-    let mut bound = board.blank_parity();
+    let mut bound = start.board.blank_parity();
     let mut left = budget;
     while bound < LARGEST_BOUND {
-        let answer = refute_by(guide, board, bound + 1, left, workers)?;
+        let answer = refute_by(guide, start, bound + 1, left, workers)?;
         match answer {
             SearchAnswer::Refuted(boards) => {
                 left -= boards;

@@ -1,15 +1,21 @@
 //! A search that is cut into many: those below the boards a few moves away.
 
-ghost use Rattle.std.specs.Prelude.{◌≡◌, ◌-◌, ◌≤◌, ◌<◌, [], IfOk, if◌then◌else◌, length};
+ghost use Rattle.std.specs.Prelude.{◌≡◌, ◌-◌, ◌≤◌, ◌<◌, ℕ, [], IfNone, IfOk, IfSome, List, Some, if◌then◌else◌, length};
 ghost use Rattle.std.specs.List.{All};
+ghost use Rattle.puz_board.specs.Boards.{moved};
+ghost use Rattle.puz_walk.specs.Starts.{AreSumsOn};
+ghost use Rattle.puz_walk.specs.Walks.{LeadsNowhere};
 ghost use Rattle.puz_search.specs.Frontiers.{Adds, IsFrontier, all_fail, child_fails_of, most_of};
-ghost use Rattle.puz_search.specs.Nodes.{IsLed, node_fails};
+ghost use Rattle.puz_search.specs.Nodes.{IsFirst, IsLed, IsWalkTo, node_fails, walk_to};
+ghost use Rattle.puz_search.specs.Prefixes.{IsInside, part_of};
 ghost use Rattle.puz_search.specs.Searches.{most_boards};
 
-use crate::nodes::Node;
-use crate::openness::Openness;
+use crate::guides::Sets;
+use crate::nodes::{Node, Target};
 use crate::searches::Search;
 use puz_board::Move;
+use puz_walk::{SumWalk, Walk, WordWalk};
+use set_sum::MOST_SETS;
 use std::alloc::{AllocError, Global};
 
 /// So many nodes for each worker are enough jobs.
@@ -28,17 +34,21 @@ pub(crate) struct Frontier {
     pub(crate) expanded: u64,
 }
 
-/// The frontier of a search that so many workers share. The nodes are expanded level by level, until there are enough of them.
+/// The frontier of a search that so many workers share, from the node of its first board. The nodes are expanded level by level,
+/// until there are enough of them.
 pub(crate) fn frontier_of(
     task: &Search<'_>,
+    first: Node,
     workers: u8,
     alloc: Global,
 ) -> Result<Frontier, AllocError>
+    requires first { IsFirst task.now first }
+    requires led { IsLed task.now first }
     ensures { IfOk result (IsFrontier task.now) }
 {
     let enough = MANY_NODES.min(NODES_A_WORKER * usize::from(workers));
     let mut nodes = Vec::new(alloc);
-    nodes.push(task.first())?;
+    nodes.push(first)?;
     let mut expanded = 0;
     for _ in 0..MOST_LEVELS {
         if enough <= nodes.len() {
@@ -72,50 +82,96 @@ fn next_level(task: &Search<'_>, nodes: Vec<Node>, alloc: Global) -> Result<Fron
     })
 }
 
-/// Adds the nodes after the moves of a node, and answers whether it was expanded. A goal board stays as it is: a search finds
-/// it at once.
+/// Adds the nodes after the moves of a node, and answers whether it was expanded.
 fn expand(task: &Search<'_>, node: Node, next: &mut Vec<Node>) -> Result<bool, AllocError>
     requires { IsLed task.now node }
     ensures { IfOk result (λ expanded. Adds task.now (node_fails task.now node)
         (most_boards node.bound) (if expanded then 1 else 0) next.old.items next.new.items) }
 {
-    match task.openness(&node) {
-        Openness::Closed => return Ok(false),
-        Openness::Goal => {
-            next.push(node)?;
-            return Ok(false);
-        }
-        Openness::Open => {}
+    if node.prefix.is_outside() {
+        return Ok(false);
     }
-    add_child(task, &node, Move::Up, next)?;
-    add_child(task, &node, Move::Down, next)?;
-    add_child(task, &node, Move::Left, next)?;
-    add_child(task, &node, Move::Right, next)?;
+    match task.guide.sets() {
+        Sets::Sums(bundle) => {
+            let walk = SumWalk::new(bundle, &node.board, node.bound);
+            expand_by(task, node, walk, next)
+        }
+        Sets::Words(words) => {
+            let walk = WordWalk::new(words, &node.board, &node.sums, node.bound);
+            expand_by(task, node, walk, next)
+        }
+    }
+}
+
+/// The same by a walk from the node's board, where there is one. A goal board stays as it is: a search finds it at once.
+fn expand_by<W: Walk>(
+    task: &Search<'_>,
+    node: Node,
+    walk: Option<W>,
+    next: &mut Vec<Node>,
+) -> Result<bool, AllocError>
+    requires led { IsLed task.now node }
+    requires inside { IsInside (part_of node.prefix) node.prefix.ahead node.prefix.rank }
+    requires walk { IsWalkTo W.shown (walk_to task.now node) walk }
+    ensures { IfOk result (λ expanded. Adds task.now (node_fails task.now node)
+        (most_boards node.bound) (if expanded then 1 else 0) next.old.items next.new.items) }
+{
+    let Some(mut walk) = walk else {
+        return Ok(false);
+    };
+    if walk.is_goal() {
+        next.push(node)?;
+        return Ok(false);
+    }
+    add_child(task, &node, &mut walk, Move::Up, next)?;
+    add_child(task, &node, &mut walk, Move::Down, next)?;
+    add_child(task, &node, &mut walk, Move::Left, next)?;
+    add_child(task, &node, &mut walk, Move::Right, next)?;
     Ok(true)
 }
 
-/// Adds the node after a move, where the move leads to a board, isn't left out, and the board isn't cut off.
-fn add_child(
+/// Adds the node after a move, where the move isn't left out, leads to a board that isn't cut off, and the node isn't outside the
+/// part. The walk from the node's board goes there and back.
+fn add_child<W: Walk>(
     task: &Search<'_>,
     node: &Node,
+    walk: &mut W,
     mv: Move,
     next: &mut Vec<Node>,
 ) -> Result<(), AllocError>
     requires led { IsLed task.now node.now }
+    requires walk { W.shown walk.old ≡ walk_to task.now node.now }
     requires bound { 1 ≤ node.now.bound }
-    ensures { IfOk result (λ done. Adds task.now (child_fails_of task.now node.now mv)
+    ensures adds { IfOk result (λ done. Adds task.now (child_fails_of task.now node.now mv)
         (most_boards (node.now.bound - 1)) 0 next.old.items next.new.items) }
+    ensures same { walk.new ≡ walk.old }
 {
     let Some(state) = task.guide.next(node.state, mv) else {
+        return Ok(());
+    };
+    let Some(sums) = sums_after(walk, mv) else {
         return Ok(());
     };
     let Some(board) = node.board.apply(mv) else {
         return Ok(());
     };
-    let child = task.after(node, mv, board, state);
-    match task.openness(&child) {
-        Openness::Closed => {}
-        Openness::Goal | Openness::Open => next.push(child)?,
+    let child = task.after(node, mv, Target { board, sums, state });
+    if !child.prefix.is_outside() {
+        next.push(child)?;
     }
     Ok(())
+}
+
+/// The sums after a move, where it leads to a board that isn't cut off. The walk goes there and back.
+fn sums_after<W: Walk>(walk: &mut W, mv: Move) -> Option<[u8; MOST_SETS]>
+    ensures none { IfNone result (LeadsNowhere (W.shown walk.old) mv) }
+    ensures some { IfSome result (λ sums. (next : List ℕ)
+        → moved (W.shown walk.old).board mv ≡ Some next
+        → AreSumsOn (W.shown walk.old).bundle next sums) }
+    ensures same { walk.new ≡ walk.old }
+{
+    let step = walk.enter(mv)?;
+    let sums = walk.sums();
+    walk.leave(&step);
+    Some(sums)
 }

@@ -8,7 +8,6 @@ mod frontiers;
 mod guides;
 pub mod laws;
 mod nodes;
-mod openness;
 mod outcomes;
 mod part_walks;
 mod prefixes;
@@ -19,6 +18,6 @@ mod walks;
 
 pub use answers::{Letters, SearchAnswer};
 pub use deepening::{Deepened, shortest, shortest_by};
-pub use guides::Guide;
+pub use guides::{Guide, Sets};
 pub use refuting::{PartBound, refute, refute_part};
 pub use sharing::{refute_by, refute_part_by};

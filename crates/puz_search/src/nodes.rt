@@ -1,23 +1,26 @@
 //! Boards below which is still to be searched.
 
-ghost use Rattle.std.specs.Prelude.{◌≡◌, ◌+◌, ◌≤◌, Some};
+ghost use Rattle.std.specs.Prelude.{◌≡◌, ◌+◌, ◌≤◌, IfNone, IfSome, Some};
 ghost use Rattle.puz_board.specs.Boards.{moved};
 ghost use Rattle.move_strings.specs.Automata.{IsState};
-ghost use Rattle.puz_search.specs.Nodes.{IsFirst, IsLed, IsPlaced};
-ghost use Rattle.puz_search.specs.Openness.{IsNodeOpenness};
+ghost use Rattle.puz_walk.specs.Starts.{AreSumsOn, IsStart};
+ghost use Rattle.puz_walk.specs.Walks.{IsClosed};
+ghost use Rattle.puz_search.specs.Nodes.{IsFirst, IsLed};
 ghost use Rattle.puz_search.specs.Prefixes.{next_ahead, next_rank, part_of};
 
 use crate::answers::{Letters, joined};
-use crate::openness::Openness;
 use crate::prefixes::Prefix;
 use crate::searches::Search;
 use arrayvec::ArrayVec;
 use puz_board::{Board, Move};
+use set_sum::MOST_SETS;
 
 /// A board below which is still to be searched.
 #[derive(Drop)]
 pub(crate) struct Node {
     pub(crate) board: Board,
+    /// The sums of the sets on the board.
+    pub(crate) sums: [u8; MOST_SETS],
     /// The state of the automaton after the moves that lead here.
     pub(crate) state: u32,
     /// Solutions of fewer moves are searched.
@@ -28,40 +31,47 @@ pub(crate) struct Node {
     pub(crate) prefix: Prefix,
 }
 
+/// Where a move leads from a node.
+#[derive(Clone, Copy)]
+pub(crate) struct Target {
+    pub(crate) board: Board,
+    /// The sums of the sets on the board.
+    pub(crate) sums: [u8; MOST_SETS],
+    /// The state of the automaton.
+    pub(crate) state: u32,
+}
+
 impl Search<'_> {
-    /// The node of the first board.
-    pub(crate) fn first(&self) -> Node
-        ensures first { IsFirst self.now result }
-        ensures led { IsLed self.now result }
+    /// The node of the first board, unless a set says that no solution has so few moves that it can be searched for.
+    pub(crate) fn first(&self) -> Option<Node>
+        requires { IsStart self.now.guide.now.bundle self.now.start.now }
+        ensures first { IfSome result (IsFirst self.now) }
+        ensures led { IfSome result (IsLed self.now) }
+        ensures none { IfNone result
+            (IsClosed self.now.guide.now.bundle self.now.start.now.board self.now.bound) }
     {
-        Node {
-            board: *self.board,
+        // Asked only for what its contract says.
+        let _side = self.guide.side();
+        let sums = self.start.sums?;
+        Some(Node {
+            board: self.start.board,
+            sums,
             state: 0,
             bound: self.bound,
             letters: ArrayVec::new(),
             prefix: self.prefix,
-        }
+        })
     }
 
-    /// Whether a solution of a node's board is still to be searched for, which it isn't outside the part.
-    pub(crate) fn openness(&self, node: &Node) -> Openness
-        requires { IsPlaced self.now node.now }
-        ensures { IsNodeOpenness self.now node.now result }
-    {
-        if node.prefix.is_outside() {
-            return Openness::Closed;
-        }
-        self.guide.openness(&node.board, node.bound)
-    }
-
-    /// The node after a move of a node, which leads to this board and this state.
-    pub(crate) fn after(&self, node: &Node, mv: Move, board: Board, state: u32) -> Node
+    /// The node to which a move leads from a node.
+    pub(crate) fn after(&self, node: &Node, mv: Move, target: Target) -> Node
         requires led { IsLed self.now node.now }
         requires bound { 1 ≤ node.now.bound }
-        requires moved { moved node.now.board mv ≡ Some board }
-        requires state { IsState self.now.guide.now.steps state }
-        ensures board { result.board ≡ board }
-        ensures state { result.state ≡ state }
+        requires moved { moved node.now.board mv ≡ Some target.board }
+        requires sums { AreSumsOn self.now.guide.now.bundle target.board target.sums }
+        requires state { IsState self.now.guide.now.steps target.state }
+        ensures board { result.board ≡ target.board }
+        ensures state { result.state ≡ target.state }
         ensures bound { result.bound + 1 ≡ node.now.bound }
         ensures part { part_of result.prefix ≡ part_of node.now.prefix }
         ensures ahead { result.prefix.ahead ≡ next_ahead node.now.prefix.ahead }
@@ -69,8 +79,10 @@ impl Search<'_> {
             ≡ next_rank node.now.prefix.ahead node.now.prefix.rank mv }
         ensures led { IsLed self.now result }
     {
+        let Target { board, sums, state } = target;
         Node {
             board,
+            sums,
             state,
             bound: node.bound - 1,
             letters: joined(node.letters.as_slice(), &[mv.letter()]),

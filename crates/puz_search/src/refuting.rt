@@ -1,10 +1,9 @@
 //! Searches of one thread.
 
 ghost use Rattle.std.specs.Prelude.{◌≡◌, ◌≤◌, ℕ, []};
-ghost use Rattle.puz_board.specs.Boards.{side_of};
+ghost use Rattle.puz_walk.specs.Starts.{IsStart};
 ghost use Rattle.puz_search.specs.Answers.{IsAnswer, IsAnswerOfPart};
-ghost use Rattle.puz_search.specs.Nodes.{IsPartAnswer, IsPlaced, node_fails, solves_below, walk_to};
-ghost use Rattle.puz_search.specs.Openness.{IsWalkTo};
+ghost use Rattle.puz_search.specs.Nodes.{IsPartAnswer, IsPlaced, IsWalkTo, node_fails, search_fails, solves_below, solves_first, walk_to};
 ghost use Rattle.puz_search.specs.Searches.{Fails, SearchOfPartFails, most_boards};
 ghost use Rattle.puz_search.specs.declared.answers.SearchAnswer.TheVariants.{Refuted, Spent};
 
@@ -17,8 +16,7 @@ use crate::prefixes::Prefix;
 use crate::searches::Search;
 use crate::walks::Reached;
 use move_strings::BoundPart;
-use puz_board::Board;
-use puz_walk::{SumWalk, Walk, WordWalk};
+use puz_walk::{Start, SumWalk, Walk, WordWalk};
 
 /// A part of a bound.
 #[derive(Clone, Copy, Debug, PartialEq, Eq)]
@@ -50,60 +48,72 @@ impl PartBound {
 /// (Korf 1985). Moves that the guide's automaton leaves out aren't tried (Taylor and Korf 1993).
 ///
 /// A board is expanded where its moves are tried. At any time at most 255 boards are, one inside the other.
-pub fn refute(guide: &Guide<'_>, board: &Board, bound: u8, budget: u64) -> SearchAnswer
-    requires { side_of board.now ≡ guide.now.bundle.side }
+pub fn refute(guide: &Guide<'_>, start: &Start, bound: u8, budget: u64) -> SearchAnswer
+    requires { IsStart guide.now.bundle start.now }
 
     // Refuted: no solution of the board has fewer moves, and the search fails with so many boards, within the budget. Solved:
     // these moves solve it, and are fewer. Spent: where the search fails, it expands more boards than the budget.
-    ensures answer { IsAnswer guide.now board.now bound budget result }
+    ensures answer { IsAnswer guide.now start.now.board bound budget result }
 
     // It is refuted wherever the search fails within the budget.
-    ensures within { (boards : ℕ) → Fails guide.now bound board.now 0 boards
+    ensures within { (boards : ℕ) → Fails guide.now bound start.now.board 0 boards
         → boards ≤ budget → result ≡ Refuted boards }
 
     // A budget that is large enough is never spent.
     ensures enough { most_boards bound ≤ budget → (result ≡ Spent → ⊥) }
 {
-    // What is said of boards and searches is said of a board and a guide, and these say that the values are.
-    let _sides = (board.side(), guide.side());
+    // What is said of searches is said of a guide, and this says that the value is one.
+    let _side = guide.side();
     let search = Search {
         guide,
-        board,
+        start,
         bound,
         prefix: Prefix::of_all(),
     };
-    refute_node(&search, &search.first(), &mut Effort::within(budget))
+    refute_first(&search, budget)
 }
 
 /// Searches as `refute` does, among the moves of a part of the bound alone: those whose first letters are of the part, and those
 /// that are too few to tell it.
 ///
 /// The boards above the last letter that tells a part are searched for each part, and count for each.
-pub fn refute_part(guide: &Guide<'_>, board: &Board, claim: &PartBound, budget: u64) -> SearchAnswer
-    requires { side_of board.now ≡ guide.now.bundle.side }
+pub fn refute_part(guide: &Guide<'_>, start: &Start, claim: &PartBound, budget: u64) -> SearchAnswer
+    requires { IsStart guide.now.bundle start.now }
 
     // Refuted: the least solution of fewer moves, if there is one, isn't of the part, and the search of the part fails with so
     // many boards, within the budget. Solved: these moves solve the board, and are fewer. Spent: where the search of the part
     // fails, it expands more boards than the budget.
-    ensures answer { IsAnswerOfPart guide.now claim.now.part board.now claim.now.bound budget result }
+    ensures answer { IsAnswerOfPart guide.now claim.now.part start.now.board claim.now.bound budget result }
 
     // It is refuted wherever the search of the part fails within the budget.
-    ensures within { (boards : ℕ) → SearchOfPartFails guide.now claim.now.part claim.now.bound board.now boards
+    ensures within { (boards : ℕ) → SearchOfPartFails guide.now claim.now.part claim.now.bound start.now.board boards
         → boards ≤ budget → result ≡ Refuted boards }
 
     // A budget that is large enough is never spent.
     ensures enough { most_boards claim.now.bound ≤ budget → (result ≡ Spent → ⊥) }
 {
-    // What is said of boards and searches is said of a board and a guide, and these say that the values are.
-    let _sides = (board.side(), guide.side());
+    // What is said of searches is said of a guide, and this says that the value is one.
+    let _side = guide.side();
     let _bound = claim.bound();
     let search = Search {
         guide,
-        board,
+        start,
         bound: claim.bound,
         prefix: Prefix::of_part(claim.part),
     };
-    refute_node(&search, &search.first(), &mut Effort::within(budget))
+    refute_first(&search, budget)
+}
+
+/// Searches below the first node.
+fn refute_first(task: &Search<'_>, budget: u64) -> SearchAnswer
+    requires { IsStart task.now.guide.now.bundle task.now.start.now }
+    ensures { IsPartAnswer (search_fails task.now) (most_boards task.now.bound)
+        (solves_first task.now) budget result }
+{
+    match task.first() {
+        Some(first) => refute_node(task, &first, &mut Effort::within(budget)),
+        None => SearchAnswer::Refuted(0),
+    }
 }
 
 /// Searches below a node with what is left of an effort. The letters of a solution are those from the first board on.
@@ -119,7 +129,7 @@ pub(crate) fn refute_node(task: &Search<'_>, node: &Node, effort: &mut Effort) -
             refute_by_walk(task, node, walk, effort)
         }
         Sets::Words(words) => {
-            let walk = WordWalk::new(words, &node.board, node.bound);
+            let walk = WordWalk::new(words, &node.board, &node.sums, node.bound);
             refute_by_walk(task, node, walk, effort)
         }
     }

@@ -1,9 +1,9 @@
 //! Searches that workers share.
 
 ghost use Rattle.std.specs.Prelude.{◌≡◌, ◌≤◌, ℕ, IfOk};
-ghost use Rattle.puz_board.specs.Boards.{side_of};
+ghost use Rattle.puz_walk.specs.Starts.{IsStart};
 ghost use Rattle.puz_search.specs.Answers.{IsAnswer, IsAnswerOfPart};
-ghost use Rattle.puz_search.specs.Nodes.{IsPartAnswer, search_fails, solves_first};
+ghost use Rattle.puz_search.specs.Nodes.{IsFirst, IsLed, IsPartAnswer, search_fails, solves_first};
 ghost use Rattle.puz_search.specs.Searches.{Fails, SearchOfPartFails, most_boards};
 ghost use Rattle.puz_search.specs.declared.answers.SearchAnswer.TheVariants.{Refuted, Spent};
 
@@ -11,11 +11,12 @@ use crate::answers::SearchAnswer;
 use crate::efforts::Effort;
 use crate::frontiers::frontier_of;
 use crate::guides::Guide;
+use crate::nodes::Node;
 use crate::outcomes::{SearchNodes, settle};
 use crate::prefixes::Prefix;
 use crate::refuting::{PartBound, refute_node};
 use crate::searches::Search;
-use puz_board::Board;
+use puz_walk::Start;
 use std::alloc::AllocError;
 use std::sync::atomic::{AtomicU64, AtomicUsize};
 use std::thread::Threads;
@@ -33,30 +34,30 @@ const FEW_BOARDS: u64 = 1 << 16;
 /// is taken for the boards a few moves away, for what their searches answer, and for the workers.
 pub fn refute_by<R: Threads + Sync, G: Gate + Sync>(
     guide: &Guide<'_>,
-    board: &Board,
+    start: &Start,
     bound: u8,
     budget: u64,
     workers: &Workers<'_, R, G>,
 ) -> Result<SearchAnswer, AllocError>
-    requires { side_of board.now ≡ guide.now.bundle.side }
+    requires { IsStart guide.now.bundle start.now }
 
     // Refuted: no solution of the board has fewer moves, and the search fails with so many boards, within the budget. Solved:
     // these moves solve it, and are fewer. Spent: where the search fails, it expands more boards than the budget.
-    ensures answer { IfOk result (IsAnswer guide.now board.now bound budget) }
+    ensures answer { IfOk result (IsAnswer guide.now start.now.board bound budget) }
 
     // It is refuted wherever the search fails within the budget.
-    ensures within { (boards : ℕ) → Fails guide.now bound board.now 0 boards
+    ensures within { (boards : ℕ) → Fails guide.now bound start.now.board 0 boards
         → boards ≤ budget → IfOk result (λ answer. answer ≡ Refuted boards) }
 
     // A budget that is large enough is never spent.
     ensures enough { most_boards bound ≤ budget → IfOk result (λ answer. answer ≡ Spent → ⊥) }
 {
-    // What is said of boards and searches is said of a board and a guide, and these say that the values are.
-    let _sides = (board.side(), guide.side());
+    // What is said of searches is said of a guide, and this says that the value is one.
+    let _side = guide.side();
     workers.gate.searches(bound);
     let search = Search {
         guide,
-        board,
+        start,
         bound,
         prefix: Prefix::of_all(),
     };
@@ -66,31 +67,31 @@ pub fn refute_by<R: Threads + Sync, G: Gate + Sync>(
 /// Searches as `refute_part` does, by these workers at once, as `refute_by` does.
 pub fn refute_part_by<R: Threads + Sync, G: Gate + Sync>(
     guide: &Guide<'_>,
-    board: &Board,
+    start: &Start,
     claim: &PartBound,
     budget: u64,
     workers: &Workers<'_, R, G>,
 ) -> Result<SearchAnswer, AllocError>
-    requires { side_of board.now ≡ guide.now.bundle.side }
+    requires { IsStart guide.now.bundle start.now }
 
     // Refuted: the least solution of fewer moves, if there is one, isn't of the part, and the search of the part fails with so
     // many boards, within the budget. Solved: these moves solve the board, and are fewer. Spent: where the search of the part
     // fails, it expands more boards than the budget.
-    ensures answer { IfOk result (IsAnswerOfPart guide.now claim.now.part board.now claim.now.bound budget) }
+    ensures answer { IfOk result (IsAnswerOfPart guide.now claim.now.part start.now.board claim.now.bound budget) }
 
     // It is refuted wherever the search of the part fails within the budget.
-    ensures within { (boards : ℕ) → SearchOfPartFails guide.now claim.now.part claim.now.bound board.now boards
+    ensures within { (boards : ℕ) → SearchOfPartFails guide.now claim.now.part claim.now.bound start.now.board boards
         → boards ≤ budget → IfOk result (λ answer. answer ≡ Refuted boards) }
 
     // A budget that is large enough is never spent.
     ensures enough { most_boards claim.now.bound ≤ budget → IfOk result (λ answer. answer ≡ Spent → ⊥) }
 {
-    // What is said of boards and searches is said of a board and a guide, and these say that the values are.
-    let _sides = (board.side(), guide.side());
+    // What is said of searches is said of a guide, and this says that the value is one.
+    let _side = guide.side();
     workers.gate.searches(claim.bound);
     let search = Search {
         guide,
-        board,
+        start,
         bound: claim.bound,
         prefix: Prefix::of_part(claim.part),
     };
@@ -103,31 +104,38 @@ fn search_by<R: Threads + Sync, G: Gate + Sync>(
     budget: u64,
     workers: &Workers<'_, R, G>,
 ) -> Result<SearchAnswer, AllocError>
+    requires { IsStart task.now.guide.now.bundle task.now.start.now }
     ensures { IfOk result (IsPartAnswer (search_fails task.now) (most_boards task.now.bound)
         (solves_first task.now) budget) }
 {
+    let Some(first) = task.first() else {
+        return Ok(SearchAnswer::Refuted(0));
+    };
     let few = budget.min(FEW_BOARDS);
     let mut effort = Effort::within(few);
-    let answer = refute_node(task, &task.first(), &mut effort);
+    let answer = refute_node(task, &first, &mut effort);
     workers.gate.expanded(few.saturating_sub(effort.left));
     match answer {
         SearchAnswer::Refuted(boards) => Ok(SearchAnswer::Refuted(boards)),
         SearchAnswer::Solved(letters) => Ok(SearchAnswer::Solved(letters)),
         SearchAnswer::Spent if budget <= FEW_BOARDS => Ok(SearchAnswer::Spent),
-        SearchAnswer::Spent => search_frontier(task, budget, workers),
+        SearchAnswer::Spent => search_frontier(task, first, budget, workers),
     }
 }
 
-/// Searches below the nodes of a frontier, which the workers share.
+/// Searches below the nodes of a frontier, which the workers share, from the node of the first board.
 fn search_frontier<R: Threads + Sync, G: Gate + Sync>(
     task: &Search<'_>,
+    first: Node,
     budget: u64,
     workers: &Workers<'_, R, G>,
 ) -> Result<SearchAnswer, AllocError>
+    requires first { IsFirst task.now first }
+    requires led { IsLed task.now first }
     ensures { IfOk result (IsPartAnswer (search_fails task.now) (most_boards task.now.bound)
         (solves_first task.now) budget) }
 {
-    let frontier = frontier_of(task, workers.count, workers.alloc)?;
+    let frontier = frontier_of(task, first, workers.count, workers.alloc)?;
     workers.gate.expanded(frontier.expanded);
     let Some(left) = budget.checked_sub(frontier.expanded) else {
         return Ok(SearchAnswer::Spent);

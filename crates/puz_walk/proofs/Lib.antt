@@ -6,6 +6,7 @@ mod MoveLemmas
 mod OpenLemmas
 mod OwnerLemmas
 mod ShiftLemmas
+pub mod StartLemmas
 mod SumWalkLemmas
 mod TallyLemmas
 mod TurnLemmas

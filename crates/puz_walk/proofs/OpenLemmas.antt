@@ -15,7 +15,7 @@ use Rattle.puz_walk.proofs.MarginLemmas.{margin_some, parity_bit, raised_below, 
 
 module _ (v : ShownBundle) (b : List ℕ) (bound margin : ℕ) (is : margin ≡ margin_of bound (blank_parity b)) where
   -- a count that is within the margin reaches the bound
-  reaches : (count : Count) → ((d : ℕ) → count ≡ Finite d → bound < d + margin) → CountReaches (told_of true b count) bound
+  pub reaches : (count : Count) → ((d : ℕ) → count ≡ Finite d → bound < d + margin) → CountReaches (told_of true b count) bound
   reaches (Finite d) near = raised_reaches bound (blank_parity b) d (parity_bit b) (let l : bound < d + margin = near d refl in omega arith)
   reaches Never near = tt
 

@@ -1,12 +1,11 @@
 //! Where a search need not go on.
 
-ghost use Rattle.std.specs.Prelude.{◌≡◌, ℕ, ◌+◌, ◌<◌, ◌≤◌, false, true, IfNone, IfSome, MatchOption, length, slice_index};
+ghost use Rattle.std.specs.Prelude.{◌≡◌, ℕ, ◌+◌, ◌<◌, ◌≤◌, IfNone, IfSome, MatchOption, length, slice_index};
 ghost use Rattle.puz_board.specs.Boards.{side_of};
 ghost use Rattle.tab_rule.specs.declared.tables.Count.TheVariants.{Finite};
 ghost use Rattle.set_sum.specs.Bounds.{CountReaches};
 ghost use Rattle.set_sum.specs.Bundles.{BundleSays};
 ghost use Rattle.puz_walk.specs.Cuts.{GoesBeyond, margin_of};
-ghost use Rattle.puz_walk.specs.Walks.{IsClosed, IsOpen};
 
 use puz_board::Board;
 use set_sum::{Bundle, MOST_SETS};
@@ -17,20 +16,6 @@ pub(crate) fn margin_of(bound: u8, parity: u8) -> u8
     ensures { result ≡ margin_of bound parity }
 {
     if bound % 2 == parity { 2 } else { 1 }
-}
-
-/// Whether no solution of a board of fewer moves than a bound need be searched for: there is none of fewer than 0, or a set cuts
-/// the board off (Korf and Felner 2002).
-pub fn is_closed(bundle: &Bundle<'_>, board: &Board, bound: u8) -> bool
-    requires { side_of board.now ≡ bundle.now.side }
-    ensures closed { result ≡ true → IsClosed bundle.now board.now bound }
-    ensures is_open { result ≡ false
-        → IsOpen (record { bundle = bundle.now; board = board.now; bound = bound }) }
-{
-    // Asked only for what its contract says.
-    let (_side, _sets) = (board.side(), bundle.sets());
-    let margin = margin_of(bound, board.blank_parity());
-    bound < margin || sums_of(bundle, board, bound - margin).is_none()
 }
 
 /// The sums of a board, where none is above a limit.

@@ -4,8 +4,10 @@
 #![tactic(auto)]
 
 mod cuts;
+mod outlines;
 mod owners;
 mod seats;
+mod starts;
 mod sum_walks;
 mod tallies;
 mod walks;
@@ -14,7 +16,8 @@ mod word_bundles;
 mod word_spots;
 mod word_walks;
 
-pub use cuts::is_closed;
+pub use outlines::Outline;
+pub use starts::Start;
 pub use sum_walks::{SumStep, SumWalk};
 pub use walks::Walk;
 pub use word_bundles::WordBundle;

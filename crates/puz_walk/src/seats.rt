@@ -1,18 +1,21 @@
 //! For each set, tile and move what a walk reads and changes when the move moves the tile.
 
 ghost use Rattle.std.specs.Prelude.{◌≡◌, ◌*◌, ◌<◌, ◌≤◌, ℕ, length};
+ghost use Rattle.edge_words.specs.Indexes.{index_count, most_words};
 ghost use Rattle.edge_words.specs.Spots.{IsIndexStep};
 ghost use Rattle.edge_words.specs.Words.{bit_number};
+ghost use Rattle.set_sum.specs.Parts.{part_pattern};
 ghost use Rattle.puz_walk.specs.Seats.{AreSeatsOf, IsSeatFor, IsSeatOf, seat_place};
 ghost use Rattle.puz_walk.specs.StoredWords.{IsOwner, move_for};
-ghost use Rattle.puz_walk.specs.WordBundles.{HaveWords, most_worded};
+ghost use Rattle.puz_walk.specs.Outlines.{CanHaveWords};
+ghost use Rattle.puz_walk.specs.WordBundles.{most_worded};
 
 use crate::owners::{Owner, move_for, owner_of};
 use crate::ways::way_of;
 use crate::word_spots::member_place;
-use edge_words::{Words, bit_number};
+use edge_words::{bit_number, index_step};
 use puz_board::{MOVES, Move};
-use set_sum::Bundle;
+use set_sum::{Bundle, Part};
 
 /// How many seats there are: 4 for each of 32 tiles of 16 sets.
 pub(crate) const MOST_SEATS: usize = 2048;
@@ -42,8 +45,8 @@ pub(crate) fn seat_place(set: u8, tile: u8, mv: Move) -> usize
 }
 
 /// The seats of the tiles of all sets for all moves.
-pub(crate) fn all_seats(bundle: &Bundle<'_>, words: &[Words]) -> [Seat; MOST_SEATS]
-    requires { HaveWords bundle.now words.now }
+pub(crate) fn all_seats(bundle: &Bundle<'_>) -> [Seat; MOST_SEATS]
+    requires { CanHaveWords bundle.now }
     ensures { AreSeatsOf bundle.now result }
 {
     let cells = bundle.side().cells();
@@ -52,15 +55,15 @@ pub(crate) fn all_seats(bundle: &Bundle<'_>, words: &[Words]) -> [Seat; MOST_SEA
         let tile = (place / 4 % 32) as u8;
         if tile < cells {
             let mv = MOVES[usize::from(place % 4)];
-            seats[usize::from(place)] = seat_of(bundle, words, (place / 128) as u8, tile, mv);
+            seats[usize::from(place)] = seat_of(bundle, (place / 128) as u8, tile, mv);
         }
     }
     seats
 }
 
 /// The seat of a tile in a set for a move.
-fn seat_of(bundle: &Bundle<'_>, words: &[Words], set: u8, tile: u8, mv: Move) -> Seat
-    requires words { HaveWords bundle.now words.now }
+fn seat_of(bundle: &Bundle<'_>, set: u8, tile: u8, mv: Move) -> Seat
+    requires tables { CanHaveWords bundle.now }
     requires set { set < length bundle.now.sets }
     requires tile { tile < bundle.now.side * bundle.now.side }
     ensures { IsSeatOf bundle.now set tile mv result }
@@ -68,14 +71,14 @@ fn seat_of(bundle: &Bundle<'_>, words: &[Words], set: u8, tile: u8, mv: Move) ->
     // Asked only for what its contract says.
     let _sets = bundle.sets();
     match owner_of(bundle, set, tile) {
-        Some(owner) => owned_seat(bundle, words, set, owner, mv),
+        Some(owner) => owned_seat(bundle, set, owner, mv),
         None => vacant(),
     }
 }
 
 /// The seat of a tile that a member of a set has, for a move.
-fn owned_seat(bundle: &Bundle<'_>, words: &[Words], set: u8, owner: Owner, mv: Move) -> Seat
-    requires words { HaveWords bundle.now words.now }
+fn owned_seat(bundle: &Bundle<'_>, set: u8, owner: Owner, mv: Move) -> Seat
+    requires tables { CanHaveWords bundle.now }
     requires set { set < length bundle.now.sets }
     requires owner { (tile : ℕ) × IsOwner bundle.now set tile owner }
     ensures { IsSeatFor bundle.now set owner mv result }
@@ -85,7 +88,7 @@ fn owned_seat(bundle: &Bundle<'_>, words: &[Words], set: u8, owner: Owner, mv: M
         table: owner.member.table,
         place: member_place(set, owner.member) as u8,
         bit: bit_for(owner, mv),
-        step: step_for(&words[usize::from(owner.member.table)], owner, mv),
+        step: step_for(bundle.part(owner.member.table), owner, mv),
     }
 }
 
@@ -98,11 +101,12 @@ fn bit_for(owner: Owner, mv: Move) -> u8
 }
 
 /// What a move of the board adds to the index of the owner of its tile.
-fn step_for(words: &Words, owner: Owner, mv: Move) -> u32
-    requires { owner.tile < length words.now.pattern.tiles }
-    ensures { IsIndexStep words.now.pattern owner.tile (move_for owner.member mv) result }
+fn step_for(part: &Part<'_>, owner: Owner, mv: Move) -> u32
+    requires few { index_count (part_pattern part.now) ≤ most_words }
+    requires tile { owner.tile < length (part_pattern part.now).tiles }
+    ensures { IsIndexStep (part_pattern part.now) owner.tile (move_for owner.member mv) result }
 {
-    words.index_step(owner.tile, move_for(owner.member, mv))
+    index_step(&part.pattern(), owner.tile, move_for(owner.member, mv))
 }
 
 /// The seat of a tile that no member of a set has.

@@ -94,6 +94,10 @@ impl<'a> Walk for SumWalk<'a> {
         self.position.is_goal()
     }
 
+    fn sums(&self) -> [u8; MOST_SETS] {
+        self.tally.sums
+    }
+
     #[inline]
     fn enter(&mut self, mv: Move) -> Option<SumStep> {
         let limit = self.bound - self.margin;

@@ -1,11 +1,13 @@
 //! Walks of any kind.
 
 use puz_board::Move;
+use set_sum::MOST_SETS;
 
 /// A board that is moved in place, and the bound below which solutions of it are searched for.
 pub trait Walk: Drop {
     ghost use Rattle.std.specs.Prelude.{◌≡◌, ◌+◌, ◌≤◌, ◌↔◌, IfNone, IfSome, IsTrue, Some};
     ghost use Rattle.puz_board.specs.Boards.{IsGoal, moved};
+    ghost use Rattle.puz_walk.specs.Starts.{AreSumsOn};
     ghost use Rattle.puz_walk.specs.Walks.{IsOpen, LeadsNowhere, ShownWalk};
 
     /// A step of a walk, by which it is taken back.
@@ -21,6 +23,10 @@ pub trait Walk: Drop {
     fn is_goal(&self) -> bool
         ensures goal { IsTrue result ↔ IsGoal (shown self.now).board }
         ensures is_open { IsOpen (shown self.now) };
+
+    /// The sums of the sets on the board.
+    fn sums(&self) -> [u8; MOST_SETS]
+        ensures { let walk = shown self.now in AreSumsOn walk.bundle walk.board result };
 
     /// Moves the board, where the move leads to one of which solutions of fewer moves than one below the bound are still to be
     /// searched for. The answer is the step, by which the move is taken back.

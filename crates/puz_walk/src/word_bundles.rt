@@ -1,42 +1,28 @@
 //! Bundles whose tables have edge words.
 
-ghost use Rattle.std.specs.Prelude.{◌≡◌, ◌≢◌, ◌*◌, ◌+◌, ◌<◌, ◌≤◌, ◌↔◌, ℕ, false, true, IfNone, IfSome, IsTrue, List, length};
-ghost use Rattle.puz_board.specs.Boards.{side_of};
+ghost use Rattle.std.specs.Prelude.{◌≡◌, ◌≢◌, ◌*◌, ◌<◌, ◌≤◌, ◌↔◌, ℕ, IfNone, IfSome, IsTrue, List, length};
 ghost use Rattle.puz_board.specs.Cells.{step_of};
-ghost use Rattle.set_sum.specs.Bundles.{IsBundle};
-ghost use Rattle.set_sum.specs.Parts.{part_pattern, part_shown};
+ghost use Rattle.puz_board.specs.Masks.{numbers_of};
+ghost use Rattle.edge_words.specs.Spots.{IsStepOf};
 ghost use Rattle.edge_words.specs.Words.{ShownWords};
+ghost use Rattle.set_sum.specs.Bundles.{IsBundle};
 ghost use Rattle.puz_walk.specs.Seats.{IsSeatOf};
-ghost use Rattle.puz_walk.specs.Walks.{IsClosed, IsOpen};
 ghost use Rattle.puz_walk.specs.WordBundles.{HaveWords, most_worded};
 ghost use Rattle.puz_walk.specs.WordSpots.{AreKept, AreKeptOf, HasPlaces, IsShift};
-ghost use Rattle.edge_words.specs.Spots.{IsStepOf};
 
-use crate::cuts::is_closed;
-use crate::seats::{MOST_SEATS, Seat, all_seats, seat_place};
-use crate::ways::{Ways, all_ways, way_place};
+use crate::outlines::{MOST_WORDED, Outline};
+use crate::seats::Seat;
 use crate::word_spots::{Kept, Spot};
 use edge_words::{Words, raises};
 use pat_place::Pattern;
-use puz_board::{Board, Move, Side};
-use set_sum::{Bundle, Part};
+use puz_board::{Move, Side};
 use std::marker::Model;
 
-/// The most tables of a bundle with words.
-const MOST_WORDED: usize = 8;
-
-/// A bundle each table of which has edge words, with what a walk asks at each move: for each set and tile the member whose
-/// pattern has it, and where moves lead.
+/// A bundle each table of which has edge words.
 #[derive(Drop)]
 pub struct WordBundle<'a> {
-    pub(crate) bundle: &'a Bundle<'a>,
+    outline: &'a Outline,
     pub(crate) words: &'a [Words],
-    /// How many sets there are.
-    sets: u8,
-    /// For each set, tile and move what is read and changed when the move moves the tile.
-    seats: [Seat; MOST_SEATS],
-    /// For each cell and move the cell to which it leads.
-    ways: Ways,
 }
 
 impl<'a> Model for WordBundle<'a> {
@@ -44,7 +30,7 @@ impl<'a> Model for WordBundle<'a> {
 
     ghost Value = { ShownBundle };
 
-    ghost view = { λ w. w.bundle.now };
+    ghost view = { λ w. w.outline.now };
 
     ghost use Rattle.puz_walk.specs.StoredWordBundles.{IsStoredWordBundle};
 
@@ -52,23 +38,18 @@ impl<'a> Model for WordBundle<'a> {
 }
 
 impl<'a> WordBundle<'a> {
-    /// The bundle, with the words of each of its tables. There is none where there are more than 8 tables, where there aren't as
-    /// many words, where a table is folded, or where the words with its number aren't those of its pattern.
-    pub fn of(bundle: &'a Bundle<'a>, words: &'a [Words]) -> Option<WordBundle<'a>>
-        ensures some { IfSome result (λ made. (made ≡ bundle.now) × HaveWords bundle.now words.now) }
-        ensures none { IfNone result (¬ HaveWords bundle.now words.now) }
+    /// The bundle with this outline and the words of each of its tables. There is none where there aren't as many words as
+    /// tables, or where the words with a table's number aren't those of its pattern.
+    pub fn of(outline: &'a Outline, words: &'a [Words]) -> Option<WordBundle<'a>>
+        ensures some { IfSome result (λ made. (made ≡ outline.now) × HaveWords outline.now words.now) }
+        ensures none { IfNone result (¬ HaveWords outline.now words.now) }
     {
-        if !have_words(bundle, words) {
+        // Asked only for what its contract says.
+        let _side = outline.side();
+        if !have_words(outline, words) {
             return None;
         }
-        let side = bundle.side();
-        Some(WordBundle {
-            bundle,
-            words,
-            sets: bundle.sets(),
-            seats: all_seats(bundle, words),
-            ways: all_ways(side),
-        })
+        Some(WordBundle { outline, words })
     }
 
     /// The side of the boards.
@@ -76,17 +57,7 @@ impl<'a> WordBundle<'a> {
         ensures side { result ≡ self.now.side }
         ensures bundle { IsBundle self.now }
     {
-        self.bundle.side()
-    }
-
-    /// Whether no solution of a board of fewer moves than a bound need be searched for, by the sums of the sets.
-    pub fn is_closed(&self, board: &Board, bound: u8) -> bool
-        requires { side_of board.now ≡ self.now.side }
-        ensures closed { result ≡ true → IsClosed self.now board.now bound }
-        ensures is_open { result ≡ false
-            → IsOpen (record { bundle = self.now; board = board.now; bound = bound }) }
-    {
-        is_closed(self.bundle, board, bound)
+        self.outline.side()
     }
 
     /// How many sets there are.
@@ -96,7 +67,7 @@ impl<'a> WordBundle<'a> {
         ensures bundle { IsBundle self.now }
         ensures few { length self.now.tables ≤ most_worded }
     {
-        self.sets
+        self.outline.sets()
     }
 
     /// The cell to which a move leads, where the blank stays on the board.
@@ -105,9 +76,7 @@ impl<'a> WordBundle<'a> {
         requires { cell < self.now.side * self.now.side }
         ensures { result ≡ step_of self.now.side cell mv }
     {
-        // Asked only for what its contract says.
-        let _side = self.bundle.side();
-        self.ways[way_place(cell, mv)]
+        self.outline.after(cell, mv)
     }
 
     /// The seat of a tile in a set for a move.
@@ -119,8 +88,7 @@ impl<'a> WordBundle<'a> {
         ensures bundle { IsBundle self.now }
         ensures words { (words : List ShownWords) × HaveWords self.now words }
     {
-        let _sets = self.bundle.sets();
-        self.seats[seat_place(set, tile, mv)]
+        self.outline.seat(set, tile, mv)
     }
 
     /// Whether a move of a tile raises the sum of a set, where a member of the set has the tile.
@@ -170,36 +138,26 @@ impl<'a> WordBundle<'a> {
     }
 }
 
-/// Whether each table of a bundle has its words, and there are not too many.
-fn have_words(bundle: &Bundle<'_>, words: &[Words]) -> bool
-    ensures { IsTrue result ↔ HaveWords bundle.now words.now }
+/// Whether each table of a bundle has its words.
+fn have_words(outline: &Outline, words: &[Words]) -> bool
+    ensures { IsTrue result ↔ HaveWords outline.now words.now }
 {
-    let tables = bundle.tables();
-    if words.len() > MOST_WORDED || words.len() != usize::from(tables) {
+    let (side, tables) = (outline.side(), outline.tables());
+    if words.len() != tables {
         return false;
     }
     for table in 0..tables {
-        if !is_worded(bundle.part(table), &words[usize::from(table)]) {
+        if !is_of(&words[table].pattern(), side, outline.mask(table)) {
             return false;
         }
     }
     true
 }
 
-/// Whether a table isn't folded, and these words are those of its pattern.
-fn is_worded(part: &Part<'_>, words: &Words) -> bool
+/// Whether a pattern is the one of this side whose tiles are the numbers of a mask.
+fn is_of(pattern: &Pattern, side: Side, mask: u32) -> bool
     ensures { IsTrue result
-        ↔ (((part_shown part.now).is_folded ≡ false) × (words.now.pattern ≡ part_pattern part.now)) }
+        ↔ (pattern.now ≡ record { side = side; tiles = numbers_of mask }) }
 {
-    match part {
-        Part::Full(table) => is_same(&words.pattern(), &table.pattern()),
-        Part::Folded(_) => false,
-    }
-}
-
-/// Whether two patterns are the same.
-fn is_same(pattern: &Pattern, other: &Pattern) -> bool
-    ensures { IsTrue result ↔ (pattern.now ≡ other.now) }
-{
-    pattern.side().get() == other.side().get() && pattern.mask() == other.mask()
+    pattern.side().get() == side.get() && pattern.mask() == mask
 }

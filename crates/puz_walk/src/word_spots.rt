@@ -6,11 +6,11 @@ ghost use Rattle.puz_board.specs.Boards.{IsBoardOf, at, side_of};
 ghost use Rattle.set_sum.specs.Bundles.{IsBundle};
 ghost use Rattle.edge_words.specs.Spots.{IsStepOf};
 ghost use Rattle.puz_walk.specs.Cuts.{AreBelow, GoesBeyond};
+ghost use Rattle.puz_walk.specs.Starts.{AreSumsOn};
 ghost use Rattle.puz_walk.specs.WordBundles.{pattern_at};
 ghost use Rattle.puz_walk.specs.WordSpots.{AreKept, AreKeptOf, HasPlaces, IsFoundOn, IsSlideTo, IsSpotOf, Shifts, member_place};
 ghost use Rattle.puz_walk.specs.WordSteps.{AreChanged};
 
-use crate::cuts::sums_of;
 use crate::word_bundles::WordBundle;
 use puz_board::masks::has_cell;
 use puz_board::{Board, Move};
@@ -188,20 +188,30 @@ fn follow_sets(bundle: &WordBundle<'_>, spot: &mut Spot, tile: u8, mv: Move, cha
     }
 }
 
-/// The spot of a board where no set has a sum above a limit.
-pub(crate) fn spot_of(bundle: &WordBundle<'_>, board: &Board, most: u8) -> Option<Spot>
-    requires { side_of board.now ≡ bundle.now.side }
+/// The spot of a board with these sums, where none is above a limit.
+pub(crate) fn spot_of(
+    bundle: &WordBundle<'_>,
+    board: &Board,
+    sums: &[u8; MOST_SETS],
+    most: u8,
+) -> Option<Spot>
+    requires side { side_of board.now ≡ bundle.now.side }
+    requires sums { AreSumsOn bundle.now board.now sums.now }
     ensures some { IfSome result (λ spot. IsSpotOf bundle.now board.now spot
         × AreBelow bundle.now board.now (most + 1)) }
     ensures none { IfNone result (GoesBeyond bundle.now board.now (most + 1)) }
 {
     // Asked only for what its contract says.
     let _side = board.side();
-    let sums = sums_of(bundle.bundle, board, most)?;
+    for set in 0..bundle.sets() {
+        if sums[usize::from(set)] > most {
+            return None;
+        }
+    }
     Some(Spot {
         numbers: numbers_of(board),
         blank: board.blank(),
-        sums,
+        sums: *sums,
         kept: kept_of(bundle, board),
     })
 }

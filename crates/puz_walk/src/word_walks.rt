@@ -2,6 +2,7 @@
 
 ghost use Rattle.std.specs.Prelude.{◌≡◌, ◌↔◌, IfNone, IfSome, IsTrue};
 ghost use Rattle.puz_board.specs.Boards.{IsGoal, side_of};
+ghost use Rattle.puz_walk.specs.Starts.{AreSumsOn};
 ghost use Rattle.puz_walk.specs.Walks.{IsClosed};
 
 use crate::cuts::margin_of;
@@ -9,6 +10,7 @@ use crate::walks::Walk;
 use crate::word_bundles::WordBundle;
 use crate::word_spots::{Change, Spot, judge, move_blank, spot_of};
 use puz_board::{Board, Move};
+use set_sum::MOST_SETS;
 use std::marker::Model;
 
 /// A board that is moved in place while a solution of fewer moves than a bound is still to be searched for. What a move does
@@ -43,9 +45,15 @@ pub struct WordStep {
 }
 
 impl<'a> WordWalk<'a> {
-    /// The walk from a board that isn't closed below the bound.
-    pub fn new(bundle: &'a WordBundle<'a>, board: &Board, bound: u8) -> Option<WordWalk<'a>>
-        requires { side_of board.now ≡ bundle.now.side }
+    /// The walk from a board with these sums, unless it is closed below the bound.
+    pub fn new(
+        bundle: &'a WordBundle<'a>,
+        board: &Board,
+        sums: &[u8; MOST_SETS],
+        bound: u8,
+    ) -> Option<WordWalk<'a>>
+        requires side { side_of board.now ≡ bundle.now.side }
+        requires sums { AreSumsOn bundle.now board.now sums.now }
         ensures some { IfSome result (λ walk.
             walk ≡ record { bundle = bundle.now; board = board.now; bound = bound }) }
         ensures none { IfNone result (IsClosed bundle.now board.now bound) }
@@ -56,7 +64,7 @@ impl<'a> WordWalk<'a> {
         if bound < margin {
             return None;
         }
-        let spot = spot_of(bundle, board, bound - margin)?;
+        let spot = spot_of(bundle, board, sums, bound - margin)?;
         Some(WordWalk {
             bundle,
             spot,
@@ -80,6 +88,10 @@ impl<'a> Walk for WordWalk<'a> {
         // Few boards have the blank in cell 0, as the goal board has.
         self.spot.blank == 0
             && is_in_order(&self.spot.numbers[..usize::from(self.bundle.side().cells())])
+    }
+
+    fn sums(&self) -> [u8; MOST_SETS] {
+        self.spot.sums
     }
 
     #[inline(always)]

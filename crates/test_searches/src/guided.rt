@@ -3,6 +3,7 @@
 ghost use Rattle.std.specs.Prelude.{◌≡◌, IfOk};
 
 use crate::small_searches::{bundle, moves, with_two_exchanged};
+use crate::starts::start_of;
 use move_strings::Automaton;
 use puz_board::{Board, Move, Side};
 use puz_search::{Deepened, Guide, SearchAnswer, refute, shortest};
@@ -108,16 +109,12 @@ struct Led<'a> {
 
 /// How many boards are expanded where a board has no solution of fewer moves than a bound.
 fn refuted<R: Abort>(rt: &R, led: Led<'_>, board: &Board, bound: u8) -> u64 {
-    let side = led.bundle.side();
-    if board.side() != side || led.automaton.side() != side {
+    if led.automaton.side() != led.bundle.side() {
         panic!(rt; "of one side");
     }
-    match refute(
-        &Guide::new(led.bundle, led.automaton),
-        board,
-        bound,
-        u64::MAX,
-    ) {
+    let guide = Guide::new(led.bundle, led.automaton);
+    let start = start_of(rt, led.bundle, board);
+    match refute(&guide, &start, bound, u64::MAX) {
         SearchAnswer::Refuted(boards) => boards,
         SearchAnswer::Solved(_) | SearchAnswer::Spent => panic!(rt; "refuted"),
     }
@@ -125,11 +122,12 @@ fn refuted<R: Abort>(rt: &R, led: Led<'_>, board: &Board, bound: u8) -> u64 {
 
 /// How many moves a shortest solution of a board has, if one is found.
 fn fewest<R: Abort>(rt: &R, led: Led<'_>, board: &Board) -> Option<u16> {
-    let side = led.bundle.side();
-    if board.side() != side || led.automaton.side() != side {
+    if led.automaton.side() != led.bundle.side() {
         panic!(rt; "of one side");
     }
-    match shortest(&Guide::new(led.bundle, led.automaton), board, 1 << 40) {
+    let guide = Guide::new(led.bundle, led.automaton);
+    let start = start_of(rt, led.bundle, board);
+    match shortest(&guide, &start, 1 << 40) {
         Deepened::Shortest(letters) => Some(moves(rt, board, &letters)),
         Deepened::Spent(_) | Deepened::Beyond => None,
     }

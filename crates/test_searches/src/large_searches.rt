@@ -2,6 +2,7 @@
 
 use crate::guided::reversals;
 use crate::small_searches::{Told, bundle, searched};
+use crate::starts::start_of;
 use puz_board::Board;
 use puz_search::{Guide, SearchAnswer, refute_by};
 use set_sum::Bundle;
@@ -40,18 +41,16 @@ fn refuted<R: Threads + Wait + Sync + AllocGlobal + Abort, G: Gate + Sync>(
     gate: &G,
 ) -> Option<u64> {
     let board = Board::from_cells(&NUMBERS).expect(rt, "a board");
-    if board.side() != bundle.side() {
-        panic!(rt; "of side 3");
-    }
-    let automaton = reversals(rt, board.side());
+    let start = start_of(rt, bundle, &board);
+    let automaton = reversals(rt, bundle.side());
     let guide = Guide::new(bundle, &automaton);
     let workers = match count {
         1..=64 => Workers::new(rt, rt.alloc(), count, gate),
         _ => panic!(rt; "1 to 64 workers"),
     };
-    let answer = match refute_by(&guide, &board, BOUND, budget, &workers) {
+    let answer = match refute_by(&guide, &start, BOUND, budget, &workers) {
         Ok(answer) => answer,
-        Err(_) => refute_by(&guide, &board, BOUND, budget, &workers).expect(rt, "memory"),
+        Err(_) => refute_by(&guide, &start, BOUND, budget, &workers).expect(rt, "memory"),
     };
     match answer {
         SearchAnswer::Refuted(boards) => Some(boards),

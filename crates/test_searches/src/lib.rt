@@ -51,6 +51,8 @@ mod small_searches;
 #[cfg(test)]
 mod solvable;
 #[cfg(test)]
+mod starts;
+#[cfg(test)]
 mod transposed;
 #[cfg(test)]
 mod views;
@@ -58,5 +60,7 @@ mod views;
 mod watched;
 #[cfg(test)]
 mod watched_makers;
+#[cfg(test)]
+mod without_tables;
 #[cfg(test)]
 mod worded;

@@ -2,6 +2,7 @@
 
 use crate::guided::{expanded, of_strings, reversals, scrambled};
 use crate::small_searches::{Told, bundle, searched, tell, with_two_exchanged};
+use crate::starts::start_of;
 use move_strings::{Automaton, BoundPart};
 use puz_board::{Board, Move};
 use puz_search::{Guide, PartBound, refute_part_by};
@@ -45,17 +46,17 @@ fn told<R: Threads + Wait + Sync + AllocGlobal + Abort>(
     claim: &PartBound,
     budget: u64,
 ) -> Told {
-    let side = led.bundle.side();
-    if board.side() != side || led.automaton.side() != side {
+    if led.automaton.side() != led.bundle.side() {
         panic!(rt; "of one side");
     }
     let guide = Guide::new(led.bundle, led.automaton);
+    let start = start_of(rt, led.bundle, board);
     let mut first = None;
     for count in [1, 2, 7, 64] {
         let workers = Workers::new(rt, rt.alloc(), count, &OpenGate);
-        let answer = match refute_part_by(&guide, board, claim, budget, &workers) {
+        let answer = match refute_part_by(&guide, &start, claim, budget, &workers) {
             Ok(answer) => answer,
-            Err(_) => refute_part_by(&guide, board, claim, budget, &workers).expect(rt, "memory"),
+            Err(_) => refute_part_by(&guide, &start, claim, budget, &workers).expect(rt, "memory"),
         };
         let answer = tell(rt, board, answer);
         let before = *first.get_or_insert(answer);

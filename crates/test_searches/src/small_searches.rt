@@ -1,6 +1,7 @@
 //! Searches of the boards of side 2, whose solutions are known.
 
 use crate::guided::reversals;
+use crate::starts::start_of;
 use arrayvec::ArrayVec;
 use puz_board::{Board, replay};
 use puz_search::{
@@ -73,17 +74,15 @@ pub(crate) fn searched<R: Threads + Wait + Sync + AllocGlobal + Abort>(
     budget: u64,
 ) -> Told {
     let board = Board::from_cells(numbers).expect(rt, "a board");
-    if board.side() != bundle.side() {
-        panic!(rt; "of the bundle's side");
-    }
-    let automaton = reversals(rt, board.side());
+    let start = start_of(rt, bundle, &board);
+    let automaton = reversals(rt, bundle.side());
     let guide = Guide::new(bundle, &automaton);
-    let alone = tell(rt, &board, refute(&guide, &board, bound, budget));
+    let alone = tell(rt, &board, refute(&guide, &start, bound, budget));
     for count in WORKERS {
         let workers = Workers::new(rt, rt.alloc(), count, &OpenGate);
-        let answer = match refute_by(&guide, &board, bound, budget, &workers) {
+        let answer = match refute_by(&guide, &start, bound, budget, &workers) {
             Ok(answer) => answer,
-            Err(_) => refute_by(&guide, &board, bound, budget, &workers).expect(rt, "memory"),
+            Err(_) => refute_by(&guide, &start, bound, budget, &workers).expect(rt, "memory"),
         };
         assert_eq!(rt;
             tell(rt, &board, answer),
@@ -119,17 +118,15 @@ pub(crate) fn deepened<R: Threads + Wait + Sync + AllocGlobal + Abort>(
     budget: u64,
 ) -> Far {
     let board = Board::from_cells(numbers).expect(rt, "a board");
-    if board.side() != bundle.side() {
-        panic!(rt; "of the bundle's side");
-    }
-    let automaton = reversals(rt, board.side());
+    let start = start_of(rt, bundle, &board);
+    let automaton = reversals(rt, bundle.side());
     let guide = Guide::new(bundle, &automaton);
-    let alone = reached(rt, &board, shortest(&guide, &board, budget));
+    let alone = reached(rt, &board, shortest(&guide, &start, budget));
     for count in WORKERS {
         let workers = Workers::new(rt, rt.alloc(), count, &OpenGate);
-        let found = match shortest_by(&guide, &board, budget, &workers) {
+        let found = match shortest_by(&guide, &start, budget, &workers) {
             Ok(found) => found,
-            Err(_) => shortest_by(&guide, &board, budget, &workers).expect(rt, "memory"),
+            Err(_) => shortest_by(&guide, &start, budget, &workers).expect(rt, "memory"),
         };
         assert_eq!(rt;
             reached(rt, &board, found),

@@ -2,6 +2,7 @@
 
 use crate::guided::reversals;
 use crate::small_searches::bundle;
+use crate::starts::start_of;
 use move_strings::Automaton;
 use puz_board::Board;
 use puz_search::{Deepened, Guide, SearchAnswer, refute_by, shortest_by};
@@ -48,19 +49,19 @@ fn watch<R: Threads + Sync + AllocGlobal + Abort>(
     automaton: &Automaton,
 ) {
     let board = Board::from_cells(&RING[6]).expect(rt, "a board");
-    let side = board.side();
-    if side != bundle.side() || side != automaton.side() {
+    if automaton.side() != bundle.side() {
         panic!(rt; "of one side");
     }
+    let start = start_of(rt, bundle, &board);
     let guide = Guide::new(bundle, automaton);
     let counts = Counts::new();
     let workers = Workers::new(rt, rt.alloc(), 2, &counts);
-    let Ok(SearchAnswer::Refuted(boards)) = refute_by(&guide, &board, 6, 100, &workers) else {
+    let Ok(SearchAnswer::Refuted(boards)) = refute_by(&guide, &start, 6, 100, &workers) else {
         panic!(rt; "refuted");
     };
     assert_eq!(rt; counts.searches.load(Ordering::SeqCst), 1);
     assert_eq!(rt; counts.boards.load(Ordering::SeqCst), boards);
-    let Ok(Deepened::Shortest(_)) = shortest_by(&guide, &board, 100, &workers) else {
+    let Ok(Deepened::Shortest(_)) = shortest_by(&guide, &start, 100, &workers) else {
         panic!(rt; "a solution");
     };
     // Thresholds 1, 3, 5 and 7.

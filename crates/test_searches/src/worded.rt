@@ -1,16 +1,18 @@
 //! Searches over edge words beside searches over sums.
 
 ghost use Rattle.std.specs.Prelude.{◌≡◌};
+ghost use Rattle.puz_walk.specs.Starts.{IsStart};
 
 use crate::bundles::bundle;
 use crate::finding::built;
 use crate::guided::{of_strings, reversals, scrambled};
 use crate::small_searches::{Told, tell, with_two_exchanged};
+use crate::starts::start_of;
 use edge_words::Words;
-use move_strings::Automaton;
+use move_strings::{Automaton, BoundPart};
 use puz_board::Board;
-use puz_search::{Guide, refute, refute_by};
-use puz_walk::WordBundle;
+use puz_search::{Deepened, Guide, PartBound, refute, refute_by, refute_part, shortest};
+use puz_walk::{Outline, Start, WordBundle};
 use set_sum::{Bundle, Part};
 use std::alloc::AllocError;
 use std::process::Abort;
@@ -19,11 +21,11 @@ use std::test::Fail;
 use std::thread::Threads;
 use test_samples::LeastCosts;
 use test_samples::boards::RING;
-use test_samples::files::{TILE_1, TILE_3};
+use test_samples::files::{TILE_1, TILE_3, TILES_123};
 use work_run::{OpenGate, Workers};
 
 /// More boards than any search here expands.
-const PLENTY: u64 = 1 << 30;
+pub(crate) const PLENTY: u64 = 1 << 30;
 
 /// Two boards of side 4 that are far from the goal board.
 const FAR: [[u8; 16]; 2] = [
@@ -32,7 +34,7 @@ const FAR: [[u8; 16]; 2] = [
 ];
 
 /// The words of the tables of a bundle.
-fn words_of<R: Threads + Wait + Sync + AllocGlobal + Abort>(
+pub(crate) fn words_of<R: Threads + Wait + Sync + AllocGlobal + Abort>(
     rt: &R,
     bundle: &Bundle<'_>,
 ) -> Result<Vec<Words>, AllocError> {
@@ -47,46 +49,53 @@ fn words_of<R: Threads + Wait + Sync + AllocGlobal + Abort>(
     Ok(words)
 }
 
-/// What so many workers tell of a board, led by a guide.
-fn told_by<R: Threads + Wait + Sync + AllocGlobal + Abort>(
+/// What so many workers tell of a start, led by a guide.
+pub(crate) fn told_by<R: Threads + Wait + Sync + AllocGlobal + Abort>(
     rt: &R,
     guide: &Guide<'_>,
-    board: &Board,
+    start: &Start,
     bound: u8,
     count: u8,
-) -> Result<Told, AllocError> {
-    if board.side() != guide.side() {
-        panic!(rt; "of the guide's side");
-    }
+) -> Result<Told, AllocError>
+    requires { IsStart guide.now.bundle start.now }
+{
     let workers = match count {
         1..=64 => Workers::new(rt, rt.alloc(), count, &OpenGate),
         _ => panic!(rt; "1 to 64 workers"),
     };
-    let answer = refute_by(guide, board, bound, PLENTY, &workers)?;
-    Ok(tell(rt, board, answer))
+    let answer = refute_by(guide, start, bound, PLENTY, &workers)?;
+    Ok(tell(rt, &start.board, answer))
 }
 
-/// What one thread tells of a board, led by a guide.
-fn told<R: Abort>(rt: &R, guide: &Guide<'_>, board: &Board, bound: u8, budget: u64) -> Told {
-    if board.side() != guide.side() {
-        panic!(rt; "of the guide's side");
-    }
-    tell(rt, board, refute(guide, board, bound, budget))
+/// What one thread tells of a start, led by a guide.
+pub(crate) fn told<R: Abort>(
+    rt: &R,
+    guide: &Guide<'_>,
+    start: &Start,
+    bound: u8,
+    budget: u64,
+) -> Told
+    requires { IsStart guide.now.bundle start.now }
+{
+    tell(rt, &start.board, refute(guide, start, bound, budget))
 }
 
-/// Asserts that searches over words tell of a board what searches over sums do, and expand as many boards: how many.
+/// Asserts that searches over words tell of a start what searches over sums do, and expand as many boards: how many.
 fn compare<R: Threads + Wait + Sync + AllocGlobal + Abort>(
     rt: &R,
     sums: &Guide<'_>,
     words: &Guide<'_>,
-    board: &Board,
+    start: &Start,
     bound: u8,
-) -> Result<u64, AllocError> {
-    let wanted = told(rt, sums, board, bound, PLENTY);
-    assert_eq!(rt; told(rt, words, board, bound, PLENTY), wanted);
+) -> Result<u64, AllocError>
+    requires sums { IsStart sums.now.bundle start.now }
+    requires words { IsStart words.now.bundle start.now }
+{
+    let wanted = told(rt, sums, start, bound, PLENTY);
+    assert_eq!(rt; told(rt, words, start, bound, PLENTY), wanted);
     for count in [1, 2, 7] {
         assert_eq!(rt;
-            told_by(rt, words, board, bound, count)?,
+            told_by(rt, words, start, bound, count)?,
             wanted,
             "{count} workers"
         );
@@ -94,10 +103,10 @@ fn compare<R: Threads + Wait + Sync + AllocGlobal + Abort>(
     let Told::Refuted(boards) = wanted else {
         return Ok(0);
     };
-    assert_eq!(rt; told(rt, words, board, bound, boards), wanted);
+    assert_eq!(rt; told(rt, words, start, bound, boards), wanted);
     if boards > 0 {
         let short = boards.saturating_sub(1);
-        assert_eq!(rt; told(rt, words, board, bound, short), Told::Spent);
+        assert_eq!(rt; told(rt, words, start, bound, short), Told::Spent);
     }
     Ok(boards)
 }
@@ -105,15 +114,20 @@ fn compare<R: Threads + Wait + Sync + AllocGlobal + Abort>(
 /// Compares the searches of all boards below all bounds: how many boards they expand.
 fn compare_all<R: Threads + Wait + Sync + AllocGlobal + Abort>(
     rt: &R,
+    bundle: &Bundle<'_>,
     sums: &Guide<'_>,
     words: &Guide<'_>,
     boards: &[Board],
     bounds: &[u8],
-) -> Result<u64, AllocError> {
+) -> Result<u64, AllocError>
+    requires sums { sums.now.bundle ≡ bundle.now }
+    requires words { words.now.bundle ≡ bundle.now }
+{
     let mut expanded: u64 = 0;
     for board in boards {
+        let start = start_of(rt, bundle, board);
         for bound in bounds {
-            expanded = expanded.saturating_add(compare(rt, sums, words, board, *bound)?);
+            expanded = expanded.saturating_add(compare(rt, sums, words, &start, *bound)?);
         }
     }
     Ok(expanded)
@@ -128,13 +142,14 @@ fn compare_by<R: Threads + Wait + Sync + AllocGlobal + Abort>(
     bounds: &[u8],
 ) -> Result<u64, AllocError> {
     let (bundle, words) = tables;
-    let words = WordBundle::of(bundle, words).expect(rt, "words of each table");
+    let outline = Outline::of(bundle).expect(rt, "an outline");
+    let words = WordBundle::of(&outline, words).expect(rt, "words of each table");
     if automaton.side() != bundle.side() {
         panic!(rt; "of the bundle's side");
     }
     let sums = Guide::new(bundle, automaton);
     let words = Guide::over_words(&words, automaton);
-    compare_all(rt, &sums, &words, boards, bounds)
+    compare_all(rt, bundle, &sums, &words, boards, bounds)
 }
 
 /// Compares the searches over a bundle of table files and a set text, led by the automaton of reversals, and by a longer one:
@@ -214,5 +229,70 @@ fn boards_of_side_4_are_searched_alike(rt: HostRuntime) -> Result<(), Fail> {
         assert_eq!(rt; short, boards);
         assert!(rt; long > 0 && long < short, "{long}");
     }
+    Ok(())
+}
+
+/// Asserts that a start has no sums, that no budget is needed to refute any bound of it, and that no solution is found.
+fn refutes_all<R: Threads + Wait + Sync + AllocGlobal + Abort>(
+    rt: &R,
+    guide: &Guide<'_>,
+    start: &Start,
+) -> Result<(), AllocError>
+    requires { IsStart guide.now.bundle start.now }
+{
+    assert!(rt; start.sums.is_none());
+    let whole = BoundPart::new(0, 1).expect(rt, "a part");
+    for bound in 0..=u8::MAX {
+        assert_eq!(rt; told(rt, guide, start, bound, 0), Told::Refuted(0));
+        assert_eq!(rt; told_by(rt, guide, start, bound, 2)?, Told::Refuted(0));
+        let part = refute_part(guide, start, &PartBound::new(bound, whole), 0);
+        assert_eq!(rt; tell(rt, &start.board, part), Told::Refuted(0));
+    }
+    assert!(rt; matches!(shortest(guide, start, 0), Deepened::Beyond));
+    Ok(())
+}
+
+/// The same of all boards of side 2 that have no solution.
+fn refutes_half<R: Threads + Wait + Sync + AllocGlobal + Abort>(
+    rt: &R,
+    bundle: &Bundle<'_>,
+    guide: &Guide<'_>,
+) -> Result<(), AllocError>
+    requires { guide.now.bundle ≡ bundle.now }
+{
+    for numbers in &RING {
+        let odd = Board::from_cells(&with_two_exchanged(rt, numbers)).expect(rt, "a board");
+        let start = start_of(rt, bundle, &odd);
+        refutes_all(rt, guide, &start)?;
+    }
+    Ok(())
+}
+
+/// The same over sums.
+fn sums_refute_half<R: Threads + Wait + Sync + AllocGlobal + Abort>(
+    rt: &R,
+    bundle: &Bundle<'_>,
+) -> Result<(), AllocError> {
+    let automaton = reversals(rt, bundle.side());
+    refutes_half(rt, bundle, &Guide::new(bundle, &automaton))
+}
+
+/// The same over words.
+fn words_refute_half<R: Threads + Wait + Sync + AllocGlobal + Abort>(
+    rt: &R,
+    bundle: &Bundle<'_>,
+) -> Result<(), AllocError> {
+    let words = words_of(rt, bundle)?;
+    let outline = Outline::of(bundle).expect(rt, "an outline");
+    let words = WordBundle::of(&outline, &words).expect(rt, "words of each table");
+    let automaton = reversals(rt, bundle.side());
+    refutes_half(rt, bundle, &Guide::over_words(&words, &automaton))
+}
+
+#[test]
+fn boards_that_a_set_says_never_of_are_refuted_at_once(rt: HostRuntime) -> Result<(), Fail> {
+    let bundle = bundle(&rt, &[&TILE_1, &TILES_123], b"set 0\nset 1\n");
+    sums_refute_half(&rt, &bundle)?;
+    words_refute_half(&rt, &bundle)?;
     Ok(())
 }

@@ -30,4 +30,4 @@ mod searches;
 #[cfg(test)]
 mod tables;
 #[cfg(test)]
-mod without_words;
+mod word_rooms;

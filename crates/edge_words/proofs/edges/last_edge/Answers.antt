@@ -79,7 +79,7 @@ entry-after-requires-clause-place c =
     c.without-2.type_inv c.without-2.ensures.here c.without-2.ensures.others
     c.in-Some.from free.0 c.count_below-2.result c.count_below-2.ensures.count)
 
--- whether the two entries rise tells of the last tile's move, or that there is an odd edge
+-- whether the entry after is greater than the one before tells of the last tile's move
 pub returns : goal.returns
 returns c =
     let p = c.args.lookup.now in
@@ -87,4 +87,4 @@ returns c =
     let step : step_of p.side c.args.last (reverse_of (move_of c.args.number)) ≡ Some c.in-Some.from = sym c.origin.ensures.origin ∙ c.in-Some.is in
     last_told p c.pattern-pattern.ensures.is_pattern cells c.requires.run.run c.args.last c.requires.last (move_of c.args.number) c.in-Some.from step
     ((c.requires.run.free c.in-Some.from).0 (c.has_cell.ensures.0 c.if-not-has_cell.false))
-    c.entry-before.result c.entry-after.result c.entry-before.ensures c.entry-after.ensures c.rise.result c.rise.ensures.differs
+    c.entry-before.result c.entry-after.result c.entry-before.ensures c.entry-after.ensures c.rise.result c.rise.ensures

@@ -4,7 +4,7 @@ use Rattle.std.specs.Prelude.{slice_index}
 use Rattle.puz_board.proofs.CellLemmas.{few_cells}
 use Rattle.pat_place.specs.Placements.{IsFree}
 use Rattle.tab_runs.specs.Runs.{with_last}
-use Rattle.edge_words.specs.Edges.{IsToldOf, IsWith}
+use Rattle.edge_words.specs.Edges.{IsWith}
 use Rattle.edge_words.specs.Lookups.{but_last}
 use Rattle.edge_words.specs.Words.{TellsOfMove, move_of}
 use Rattle.puz_board.specs.Cells.{reverse_of, step_of}
@@ -45,18 +45,18 @@ lasts-init c = left_start c.args.lookup.now (but_last c.args.lookup.now c.args.r
     c.requires.words
 
 -- the lowest cell that is left is free
-pub last_edge-requires-clause-last : goal.last_edge-requires-clause-last
-last_edge-requires-clause-last c =
-    let at = (goal.at.last_edge-requires-clause-last c).After-led_to-open in
+pub last_edge-rises-requires-clause-last : goal.last_edge-rises-requires-clause-last
+last_edge-rises-requires-clause-last c =
+    let at = (goal.at.last_edge-rises-requires-clause-last c).After-led_to-open in
     (c.requires.run.free c.first_of-last.result).0 (c.led_to-open.ensures.free c.first_of-last.result
     (left_in c.args.lookup.now (but_last c.args.lookup.now c.args.run.now.cells) c.args.number c.led_to-open.result c.lasts.left c.lasts.words
     c.lasts.invariant (skip at) c.first_of-last.result c.first_of-last.ensures.here c.first_of-last.ensures.lowest))
 
 -- the words tell of the move up to the lowest cell that is left
-pub last_edge-requires-clause-words : goal.last_edge-requires-clause-words
-last_edge-requires-clause-words c =
+pub last_edge-rises-requires-clause-words : goal.last_edge-rises-requires-clause-words
+last_edge-rises-requires-clause-words c =
     left_here c.args.lookup.now (but_last c.args.lookup.now c.args.run.now.cells) c.args.number c.led_to-open.result c.lasts.left c.lasts.words
-    c.lasts.invariant (skip (goal.at.last_edge-requires-clause-words c).After-led_to-open) c.first_of-last.result c.first_of-last.ensures.here
+    c.lasts.invariant (skip (goal.at.last_edge-rises-requires-clause-words c).After-led_to-open) c.first_of-last.result c.first_of-last.ensures.here
     c.first_of-last.ensures.lowest
 
 -- where the last tile's move is noted for the lowest cell, the others are left
@@ -76,19 +76,18 @@ lasts-preserved c =
     c.first_of-last.ensures.here c.first_of-last.ensures.lowest)) in
     let inside = there.0 in
     let tile : length p.tiles - 1 ≡ number / 4 = (let t = c.requires.tile in omega arith) in
-    let told : TellsOfMove p (with_last cells last) (length p.tiles - 1) (move_of number) c.in-Some.rises =
-    subst (IsToldOf p (with_last cells last) (length p.tiles - 1) (move_of number)) c.in-Some.is c.last_edge.ensures in
     left_next p cells number mask c.lasts.left c.lasts.words c.lasts.invariant (skip at) last
     c.first_of-last.ensures.here c.first_of-last.ensures.lowest c.but_first-left.result c.but_first-left.type_inv
     (λ x one. let l = ((is.free x).0 (c.led_to-open.ensures.free x one)).0 in omega arith)
     (c.but_first-left.ensures.here last c.first_of-last.ensures.here c.first_of-last.ensures.lowest)
-    (λ x few ne. c.but_first-left.ensures.others last c.first_of-last.ensures.here c.first_of-last.ensures.lowest x ne) (omega arith) c.in-Some.rises
-    (subst (λ i. TellsOfMove p (with_last cells last) i (move_of number) c.in-Some.rises) tile told)
+    (λ x few ne. c.but_first-left.ensures.others last c.first_of-last.ensures.here c.first_of-last.ensures.lowest x ne) (omega arith)
+    c.last_edge-rises.result
+    (subst (λ i. TellsOfMove p (with_last cells last) i (move_of number) c.last_edge-rises.result) tile c.last_edge-rises.ensures)
     c.from-in-lasts.result c.noted.result c.from-in-lasts.ensures
-    (subst (λ i. IsWith c.in-Some.rises number (slice_index c.lasts.words i) c.noted.result) (c.from.ensures ∙ sym c.from-in-lasts.ensures) c.noted.ensures)
+    (subst (λ i. IsWith c.last_edge-rises.result number (slice_index c.lasts.words i) c.noted.result) (c.from.ensures ∙ sym c.from-in-lasts.ensures) c.noted.ensures)
 
 -- when no cell is left, the words tell of the last tile's move too
-pub returns-clause-told : goal.returns-clause-told
-returns-clause-told c =
+pub returns : goal.returns
+returns c =
     left_all c.args.lookup.now (but_last c.args.lookup.now c.args.run.now.cells) c.args.number c.led_to-open.result c.lasts.left c.lasts.words
-    c.lasts.invariant (skip (goal.at.returns-clause-told c).After-led_to-open) c.lasts-test.false
+    c.lasts.invariant (skip (goal.at.returns c).After-led_to-open) c.lasts-test.false

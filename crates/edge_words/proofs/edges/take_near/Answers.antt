@@ -10,7 +10,7 @@ use Rattle.puz_board.proofs.CellLemmas.{few_cells}
 use Rattle.pat_place.specs.Placements.{IsFree}
 use Rattle.tab_runs.specs.Runs.{with_last}
 use Rattle.tab_runs.proofs.RunLemmas.{free-with_last, with_last-free}
-use Rattle.edge_words.specs.Edges.{IsToldOf, IsWith}
+use Rattle.edge_words.specs.Edges.{IsWith}
 use Rattle.edge_words.specs.Lookups.{but_last}
 use Rattle.edge_words.specs.Words.{TellsOfMove, move_of}
 use Rattle.edge_words.proofs.LookupLemmas.{few_below, mask_open, open_place}
@@ -161,25 +161,6 @@ entry-after-requires-clause-place c =
     c.without-open.type_inv c.without-open.ensures.here c.without-open.ensures.others last inside c.lasts.place place ∙
     front_place p pat cells c.requires.run.run last there.0 (number / 4) (move_of number) low near c.requires.near)
 
--- where the entries on both sides of a near move don't differ by one, the pattern has an odd edge
-pub returns-in_default-clause-odd : goal.returns-in_default-clause-odd
-returns-in_default-clause-odd c =
-    let p = c.args.lookup.now in
-    let pat = c.pattern-pattern.ensures.is_pattern in
-    let cells = but_last p c.args.run.now.cells in
-    let number = c.args.number in
-    let near = c.args.near.now in
-    let last = c.first_of-last.result in
-    let few = few_cells p.side pat.low pat.high in
-    let low : number / 4 < length cells = (let t = c.requires.tile in let size = c.requires.run.run.size in omega arith) in
-    let at = (goal.at.returns-in_default-clause-odd c).After-without-open in
-    let one = left_in p cells number c.without-open.result c.lasts.left c.lasts.words c.lasts.invariant.lefts (skip at) last
-    c.first_of-last.ensures.here c.first_of-last.ensures.lowest in
-    let there = with_last-free p.side cells near.from last ((opened at last).0 one) in
-    subst (IsToldOf p (with_last cells last) (number / 4) (move_of number)) c.in_default.is
-    (front_told p pat cells c.requires.run.run last there.0 (number / 4) (move_of number) low near c.requires.near (λ e. there.1 (sym e))
-    c.entry-before.result c.entry-after.result c.entry-before.ensures c.entry-after.ensures c.rise.result c.rise.ensures.differs)
-
 -- the word of a free cell is one of the words
 pub bounds-words-from : goal.bounds-words-from
 bounds-words-from c =
@@ -235,21 +216,20 @@ lasts-preserved c =
     c.first_of-last.ensures.here c.first_of-last.ensures.lowest in
     let there = with_last-free p.side cells near.from last ((opened at last).0 one) in
     let inside = there.0.0 in
-    let tells : TellsOfMove p (with_last cells last) (number / 4) (move_of number) c.in-Some.rises =
-    subst (IsToldOf p (with_last cells last) (number / 4) (move_of number)) c.in-Some.is
-    (front_told p pat cells c.requires.run.run last there.0 (number / 4) (move_of number) low near c.requires.near (λ e. there.1 (sym e))
-    c.entry-before.result c.entry-after.result c.entry-before.ensures c.entry-after.ensures c.rise.result c.rise.ensures.differs) in
+    let tells : TellsOfMove p (with_last cells last) (number / 4) (move_of number) c.rise-rises.result =
+    front_told p pat cells c.requires.run.run last there.0 (number / 4) (move_of number) low near c.requires.near
+    c.entry-before.result c.entry-after.result c.entry-before.ensures c.entry-after.ensures c.rise-rises.result c.rise-rises.ensures in
     left_next_at p cells number c.without-open.result c.lasts.left c.lasts.words c.lasts.invariant.lefts (skip at) last
     c.first_of-last.ensures.here c.first_of-last.ensures.lowest c.but_first-left.result c.but_first-left.type_inv
     (λ x h. in_below c.without-open.result 32 x c.without-open.type_inv h)
     (c.but_first-left.ensures.here last c.first_of-last.ensures.here c.first_of-last.ensures.lowest)
     (λ x few ne. c.but_first-left.ensures.others last c.first_of-last.ensures.here c.first_of-last.ensures.lowest x ne) (omega arith)
-    c.in-Some.rises tells c.from-in-lasts.result c.noted.result c.from-in-lasts.ensures
-    (subst (λ i. IsWith c.in-Some.rises number (slice_index c.lasts.words i) c.noted.result) (c.from.ensures ∙ sym c.from-in-lasts.ensures) c.noted.ensures)
+    c.rise-rises.result tells c.from-in-lasts.result c.noted.result c.from-in-lasts.ensures
+    (subst (λ i. IsWith c.rise-rises.result number (slice_index c.lasts.words i) c.noted.result) (c.from.ensures ∙ sym c.from-in-lasts.ensures) c.noted.ensures)
     c.lasts.place c.lasts.invariant.passed
 
 -- when no cell is left, the words tell of the near move too
-pub returns-clause-told : goal.returns-clause-told
-returns-clause-told c =
+pub returns : goal.returns
+returns c =
     left_all c.args.lookup.now (but_last c.args.lookup.now c.args.run.now.cells) c.args.number c.without-open.result c.lasts.left c.lasts.words
-    c.lasts.invariant.lefts (skip (goal.at.returns-clause-told c).After-without-open) c.lasts-test.false
+    c.lasts.invariant.lefts (skip (goal.at.returns c).After-without-open) c.lasts-test.false

@@ -1,6 +1,6 @@
 use Rattle.std.proofs.Common.{rules, ◌≡◌, ◌+◌, ◌-◌, ◌*◌, ◌/◌, ◌≤◌, length, ◌∙◌, ap, ap₂, arith}
-use Rattle.edge_words.specs.Fills.{IsFilled}
-use Rattle.edge_words.proofs.FillLemmas.{filled_join, lower, lower_fillable, lower_within, part_fits, part_low, upper, upper_fillable}
+use Rattle.edge_words.specs.Fills.{AreAllTold}
+use Rattle.edge_words.proofs.FillLemmas.{lower, lower_fillable, lower_within, part_fits, part_low, told_join, upper, upper_fillable}
 use Rattle.edge_words.proofs.fills.+fill_by+fn-fill_by-join_mut+arg2+fn-fill_by-join_mut+arg3.Goals as goal
 
 -- the words of a span's first part are so few that their count fits
@@ -20,8 +20,8 @@ overflow_mul-part-2 g t c =
     record { fits = omega arith }
 
 -- both threads may begin: each half of the words has the room that its runs need
-pub join_mut-one-requires-after_bounds : goal.join_mut-one-requires-after_bounds
-join_mut-one-requires-after_bounds g t c κs within =
+pub join_mut-requires-after_bounds : goal.join_mut-requires-after_bounds
+join_mut-requires-after_bounds g t c κs within =
     let p = c.args.lookup.now in
     let s = c.args.span in
     let part = (s.high - s.low) / c.from.result * c.from-2.result in
@@ -37,19 +37,18 @@ join_mut-one-requires-after_bounds g t c κs within =
     let high = upper_fillable p s (s.low + part) (omega arith) to c.args.words.now cut.result.0.now cut.result.1.now c.requires cut.ensures.value long in
     search rules
 
--- where the front was filled, the span is filled just as the back was: with all words, or up to an odd edge
-pub returns-then-one : goal.returns-then-one
-returns-then-one g t c =
+-- where the words of both halves tell of their moves, those of the whole span do
+pub returns : goal.returns
+returns g t c =
     let p = c.args.lookup.now in
     let s = c.args.span in
     let part = (s.high - s.low) / c.from.result * c.from-2.result in
     let threads = c.from.ensures in
     let half = c.from-2.ensures in
     let to : s.low + part ≤ s.high = part_low s.low s.high c.from.result c.from-2.result c.requires.span.order (omega arith) in
-    let first : IsFilled p (lower p s (s.low + part) (omega arith) to) c.front-1.given.0 c.join_mut-one.result.0 = search rules in
-    let second : IsFilled p (upper p s (s.low + part) (omega arith) to) c.back-1.given.0 c.join_mut-one.result.1 = search rules in
-    filled_join p s (s.low + part) (omega arith) to c.front-1.given.0 c.back-1.given.0 c.join_mut-one.result.0 c.join_mut-one.result.1 first second
-    c.if-one.true
+    let first : AreAllTold p (lower p s (s.low + part) (omega arith) to) c.front-1.given.0 = search rules in
+    let second : AreAllTold p (upper p s (s.low + part) (omega arith) to) c.back-1.given.0 = search rules in
+    told_join p s (s.low + part) (omega arith) to c.front-1.given.0 c.back-1.given.0 first second
 
 -- the words of the first part are no more than the span's, so that they can be split there
 pub split_at_mut-front-requires : goal.split_at_mut-front-requires

@@ -1,7 +1,7 @@
 use Rattle.std.proofs.Common.{◌+◌, sym, subst}
 use Rattle.edge_words.specs.Fills.{AreToldBelow}
 use Rattle.edge_words.proofs.FillLemmas.{told_all, told_past}
-use Rattle.edge_words.proofs.fills.fill.Goals.{in-Some+else-not-fill_run, in_default}
+use Rattle.edge_words.proofs.fills.fill.Goals.{in-Some, in_default}
 use Rattle.edge_words.proofs.fills.fill.Goals as goal
 
 -- where the run of one more index is filled in, or no run has it, the words tell up to the next index
@@ -11,15 +11,11 @@ loop-index-preserved c =
     let s = c.args.span.now in
     let index = c.loop-index.index in
     elim c.match-run_at.branch [
-      | in-Some+else-not-fill_run w ↦ subst (AreToldBelow p s (index + 1)) (sym w.words-is) w.if-not-fill_run.ensures.told
+      | in-Some w ↦ subst (AreToldBelow p s (index + 1)) (sym w.words-is) w.fill_run.ensures
       | in_default w ↦ subst (AreToldBelow p s (index + 1)) (sym w.words-is)
           (told_past p s index c.loop-index.words w.in_default.ensures c.loop-index.invariant)
     ]
 
 -- after all indexes of the span, the words of all its runs tell of their moves
 pub returns : goal.returns
-returns c = record {
-  told = told_all c.args.lookup.now c.args.span.now c.loop-index.index c.loop-index.words c.loop-index-test.false
-      c.loop-index.invariant;
-  odd = tt;
-}
+returns c = told_all c.args.lookup.now c.args.span.now c.loop-index.index c.loop-index.words c.loop-index-test.false c.loop-index.invariant

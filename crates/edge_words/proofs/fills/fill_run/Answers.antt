@@ -7,8 +7,8 @@ use Rattle.edge_words.proofs.FillLemmas.{place_low, told_before, told_more, told
 use Rattle.edge_words.proofs.fills.fill_run.Goals as goal
 
 -- where the words of the run begin, those of the span's runs with lower indexes end
-pub words_of-requires-clause-before : goal.words_of-requires-clause-before
-words_of-requires-clause-before c =
+pub words_of-found-requires-clause-before : goal.words_of-found-requires-clause-before
+words_of-found-requires-clause-before c =
     let p = c.args.lookup.now in
     let s = c.args.span.now in
     let side = c.side.ensures.side ∙ ap (λ q. q.side) c.pattern.ensures.pattern in
@@ -46,15 +46,15 @@ loop-last-preserved c =
     let last = c.loop-last.last in
     told_more p s (but_last p c.args.run.now.cells) run.run c.args.index last c.requires.index c.requires.span.1 c.requires.span.2
     (omega arith) c.loop-last.words c.loop-last.invariant
-    (slice_index c.in-Some.found c.from-in-loop-last.result)
-    (λ free. subst (λ i. IsEdgeWord p (with_last (but_last p c.args.run.now.cells) last) (slice_index c.in-Some.found i))
-    (sym c.from-in-loop-last.ensures) (c.in-Some.ensures.each last free))
+    (slice_index c.words_of-found.result c.from-in-loop-last.result)
+    (λ free. subst (λ i. IsEdgeWord p (with_last (but_last p c.args.run.now.cells) last) (slice_index c.words_of-found.result i))
+    (sym c.from-in-loop-last.ensures) (c.words_of-found.ensures.each last free))
     ((c.args.index - s.low) * c.from.result + c.from-in-loop-last-2.result)
     (ap₂ (λ n k. (c.args.index - s.low) * n + k) (c.from.ensures ∙ count) c.from-in-loop-last-2.ensures)
 
 -- after all last cells of a run, the words tell of the runs up to this one
-pub returns-clause-told : goal.returns-clause-told
-returns-clause-told c =
+pub returns : goal.returns
+returns c =
     let p = c.args.lookup.now in
     let side = c.side.ensures.side ∙ ap (λ q. q.side) c.pattern.ensures.pattern in
     let count : c.cells-cells.result ≡ p.side * p.side = c.cells-cells.ensures.value ∙ ap₂ (λ m n. m * n) side side in

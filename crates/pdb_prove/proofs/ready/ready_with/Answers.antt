@@ -5,7 +5,7 @@ use Rattle.pdb_prove.proofs.ready.ready_with.Goals as goal
 -- the boards of the claims and the automaton of reversals have the side of the bundle
 pub invariant_of-result : goal.invariant_of-result
 invariant_of-result c = record {
-  sides = each_side _ _ (rw c.as_slice.ensures.value at c.in-None.ensures.none);
+  posed = rw c.as_slice-in-None.ensures.value at c.in_ok-starts-in-None.ensures;
   one_side = ap (λ a. a.side) c.in_ok-reversals-in-None.ensures.value ∙ c.side.ensures.side;
 }
 
@@ -16,3 +16,7 @@ returns-in-None-clause-ok c = λ fold files are makes. record {
   is_bundle = rw c.in_ok-bundle.was at makes;
   one_side = rw c.as_slice.ensures.value at c.in-None.ensures.none;
 }
+
+-- the boards of the claims have the side of the bundle, as their starts need it
+pub starts_over-requires : goal.starts_over-requires
+starts_over-requires c = rw c.as_slice-in-None.ensures.value (each_side _ _ (rw c.as_slice.ensures.value at c.in-None.ensures.none))

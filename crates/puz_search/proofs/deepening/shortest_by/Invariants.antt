@@ -4,7 +4,7 @@ use Rattle.puz_search.proofs.deepening.shortest_by.Given as goal
 
 -- the workers' searches below the thresholds so far failed, and no solution has fewer moves than the bound
 abbrev pub invariant-loop-bound : goal.invariant-loop-bound
-invariant-loop-bound g l = IsDeep l.guide l.board l.budget l.left l.bound
+invariant-loop-bound g l = IsDeep l.guide l.start.board l.budget l.left l.bound
 
 -- what gets less while workers deepen: how far the bound is below 255
 abbrev pub decreases-loop-bound : goal.decreases-loop-bound

@@ -1,22 +1,31 @@
-use Rattle.std.proofs.Common.{◌≡◌, ◌-◌, false, Some, sym, ◌∙◌, ap, arith, subst}
+use Rattle.std.proofs.Common.{◌≡◌, ◌-◌, false, Some, inl, refl, sym, ◌∙◌, ap, arith, subst}
 use Rattle.puz_board.specs.Boards.{moved}
+use Rattle.puz_walk.specs.Walks.{LeadsNowhere}
 use Rattle.puz_search.specs.Frontiers.{Adds, child_fails_of}
 use Rattle.puz_search.specs.Searches.{leaves_out, most_boards}
 use Rattle.puz_search.proofs.CountLemmas.{adds_none, adds_one}
-use Rattle.puz_search.proofs.NodeLemmas.{child_closed, child_out, child_same}
+use Rattle.puz_search.proofs.NodeLemmas.{child_closed, child_nowhere, child_out, child_same}
 use Rattle.puz_search.proofs.WalkLemmas.{step_kept}
 use Rattle.puz_search.proofs.frontiers.add_child.Goals as goal
 
 -- where the automaton leaves a move out, no node is added for it, and its search fails with 0 boards
-pub returns-in_default : goal.returns-in_default
-returns-in_default c =
+pub returns-in_default-clause-adds : goal.returns-in_default-clause-adds
+returns-in_default-clause-adds g c =
     let s = c.args.task.now in
     let node = c.args.node.now in
     adds_none s (child_fails_of s node c.args.mv) (most_boards (node.bound - 1)) c.args.next.now.items (child_out s node c.args.mv c.in_default.ensures.next)
 
+-- where the move leads nowhere, no node is added for it
+pub returns-in_default-sums_after-clause-adds : goal.returns-in_default-sums_after-clause-adds
+returns-in_default-sums_after-clause-adds g c =
+    let s = c.args.task.now in
+    let node = c.args.node.now in
+    adds_none s (child_fails_of s node c.args.mv) (most_boards (node.bound - 1)) c.args.next.now.items
+    (child_nowhere s node c.args.mv (subst (λ w. LeadsNowhere w c.args.mv) c.requires.walk c.in_default-sums_after.ensures.none))
+
 -- where the board after a move is still to be searched, its node is the one that is added
-pub returns-in_ok-push-in-Goal : goal.returns-in_ok-push-in-Goal
-returns-in_ok-push-in-Goal c =
+pub returns-in_ok-push-clause-adds : goal.returns-in_ok-push-clause-adds
+returns-in_ok-push-clause-adds g c =
     let s = c.args.task.now in
     let node = c.args.node.now in
     let move = c.args.mv in
@@ -28,13 +37,13 @@ returns-in_ok-push-in-Goal c =
     let leads : moved node.board move ≡ Some c.in-Some-apply.board = sym c.apply.ensures ∙ c.in-Some-apply.is in
     let less : child.bound ≡ node.bound - 1 = (let bound = e.bound in omega arith) in
     let most : most_boards child.bound ≡ most_boards (node.bound - 1) = ap most_boards less in
-    subst (Adds s (child_fails_of s node move) (most_boards (node.bound - 1)) 0 c.args.next.now.items) (sym c.in_ok-push-in-Goal.ensures.items)
+    subst (Adds s (child_fails_of s node move) (most_boards (node.bound - 1)) 0 c.args.next.now.items) (sym c.in_ok-push.ensures.items)
     (adds_one s (child_fails_of s node move) (most_boards (node.bound - 1)) c.args.next.now.items child
     (child_same s node child move c.in-Some-apply.board leads on e.board state e.bound e.part e.ahead e.rank) (omega arith) e.led)
 
--- where the board after a move is closed, no node is added for it
-pub returns-in-Closed : goal.returns-in-Closed
-returns-in-Closed c =
+-- where the node after a move is outside the part, it isn't added
+pub returns-else-not-is_outside-clause-adds : goal.returns-else-not-is_outside-clause-adds
+returns-else-not-is_outside-clause-adds g c =
     let s = c.args.task.now in
     let node = c.args.node.now in
     let move = c.args.mv in
@@ -45,4 +54,4 @@ returns-in-Closed c =
     let state = e.state ∙ sym c.in-Some.ensures.next.0 in
     let leads : moved node.board move ≡ Some c.in-Some-apply.board = sym c.apply.ensures ∙ c.in-Some-apply.is in
     adds_none s (child_fails_of s node move) (most_boards (node.bound - 1)) c.args.next.now.items
-    (child_closed s node child move c.in-Some-apply.board leads on e.board state e.bound e.part e.ahead e.rank c.in-Closed.ensures)
+    (child_closed s node child move c.in-Some-apply.board leads on e.board state e.bound e.part e.ahead e.rank (inl (c.if-not-is_outside.ensures.outside refl)))

@@ -6,8 +6,8 @@ use Rattle.puz_search.proofs.frontiers.frontier_of.Goals as goal
 pub loop-init : goal.loop-init
 loop-init c =
     record {
-      frontier = frontier_first c.args.task.now c.first.result (record { nodes = c.push.new.self; expanded = 0 }) c.first.ensures.first c.first.ensures.led
-          (c.in_ok-push.ensures.items ∙ ap (λ xs. xs ++ c.first.result ∷ []) c.new-nodes.ensures.items) refl;
+      frontier = frontier_first c.args.task.now c.args.first (record { nodes = c.push.new.self; expanded = 0 }) c.requires.first c.requires.led
+          (c.in_ok-push.ensures.items ∙ ap (λ xs. xs ++ c.args.first ∷ []) c.new-nodes.ensures.items) refl;
       small = omega arith;
     }
 

@@ -1,5 +1,4 @@
-use Rattle.std.proofs.Common.{◌≡◌, subst, arith}
-use Rattle.puz_board.specs.Boards.{IsBoardOf}
+use Rattle.std.proofs.Common.{◌≡◌, arith}
 use Rattle.puz_search.specs.Answers.{IsAnswer}
 use Rattle.puz_search.specs.declared.answers.SearchAnswer.TheVariants.{Refuted}
 use Rattle.puz_search.specs.declared.searches.Search.{Search}
@@ -11,27 +10,27 @@ pub returns-clause-answer : goal.returns-clause-answer
 returns-clause-answer g c =
     let s : Search = record {
       guide = c.args.guide;
-      board = c.args.board;
+      start = c.args.start;
       bound = c.args.bound;
-      first_state = c.side-2.ensures.guide.automaton.first;
-      one_side = subst (λ n. IsBoardOf n c.args.board.now) c.requires c.side.ensures.board;
+      first_state = c.side-side.ensures.guide.automaton.first;
+      one_side = c.requires.board;
       small = omega arith;
       prefix = c.of_all.result;
     } in
-    if_ok (IsWhole s c.args.budget) (IsAnswer c.args.guide.now c.args.board.now c.args.bound c.args.budget)
-    (all_answer s c.side-2.ensures.guide c.of_all.ensures c.args.budget) c.search_by.result c.search_by.ensures
+    if_ok (IsWhole s c.args.budget) (IsAnswer c.args.guide.now c.args.start.now.board c.args.bound c.args.budget)
+    (all_answer s c.side-side.ensures.guide c.of_all.ensures c.args.budget) c.search_by.result c.search_by.ensures
 
 -- where the search of all moves fails within the budget, the workers answer that it is refuted
 pub returns-clause-within : goal.returns-clause-within
 returns-clause-within g c boards fails few =
     let s : Search = record {
       guide = c.args.guide;
-      board = c.args.board;
+      start = c.args.start;
       bound = c.args.bound;
-      first_state = c.side-2.ensures.guide.automaton.first;
-      one_side = subst (λ n. IsBoardOf n c.args.board.now) c.requires c.side.ensures.board;
+      first_state = c.side-side.ensures.guide.automaton.first;
+      one_side = c.requires.board;
       small = omega arith;
       prefix = c.of_all.result;
     } in
     if_ok (IsWhole s c.args.budget) (λ answer. answer ≡ Refuted boards)
-    (all_within s c.side-2.ensures.guide c.of_all.ensures c.args.budget boards fails few) c.search_by.result c.search_by.ensures
+    (all_within s c.side-side.ensures.guide c.of_all.ensures c.args.budget boards fails few) c.search_by.result c.search_by.ensures

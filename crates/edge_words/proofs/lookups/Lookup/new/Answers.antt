@@ -1,5 +1,6 @@
-use Rattle.std.proofs.Common.{◌-◌, ◌*◌, sym, ◌∙◌, ap₂, subst}
+use Rattle.std.proofs.Common.{◌-◌, ◌*◌, sym, ◌∙◌, ap, ap₂, subst}
 use Rattle.tab_rule.specs.ExactTables.{IsExactTable}
+use Rattle.tab_runs.specs.RowTables.{rows_for}
 use Rattle.edge_words.specs.Lookups.{AreOrigins}
 use Rattle.edge_words.proofs.lookups.Lookup.new.Goals as goal
 
@@ -13,7 +14,7 @@ invariant_of-result c =
       width = c.from.ensures ∙ c.width.ensures;
       listed = ap₂ (λ a b. a - b) (c.from-2.ensures ∙ c.cells.ensures.value ∙ ap₂ (λ m n. m * n) c.side.ensures.side c.side.ensures.side)
           (c.from-3.ensures ∙ c.size.ensures.size);
-      rows = c.in_ok-rows.ensures;
+      rows = c.requires.rows ∙ ap rows_for (sym same);
       origins = subst (λ n. AreOrigins n c.all_origins.result) c.side-2.ensures.side c.all_origins.ensures;
       strides = c.strides_of.ensures;
     }

@@ -23,10 +23,11 @@ returns-clause-led c =
     let count : length c.joined.result.items ≡ length node.letters.items + 1 = ap length items ∙ length-append node.letters.items (c.letter.result ∷ []) in
     record {
       placed = record {
-        board = IsBoardOf-moved s.guide.now.bundle.side node.board placed.board c.args.mv c.args.board c.requires.moved;
+        board = IsBoardOf-moved s.guide.now.bundle.side node.board placed.board c.args.mv c.args.target.board c.requires.moved;
+        sums = c.requires.sums;
         state = c.requires.state;
         left = omega arith;
       };
-      leads = λ text trail. subst (λ letters. IsTrail s.board.now s.bound (letters ++ text)) (sym items)
-          (led_after s node c.args.mv c.args.board c.letter.result text c.requires.led c.requires.bound c.requires.moved c.letter.ensures trail);
+      leads = λ text trail. subst (λ letters. IsTrail s.start.now.board s.bound (letters ++ text)) (sym items)
+          (led_after s node c.args.mv c.args.target.board c.letter.result text c.requires.led c.requires.bound c.requires.moved c.letter.ensures trail);
     }

@@ -16,7 +16,7 @@ pub returns-then-bound-margin-clause-none : goal.returns-then-bound-margin-claus
 returns-then-bound-margin-clause-none c =
     let v = c.args.bundle.now in
     let b = c.args.board.now in
-    let good : IsBoardOf v.side b = subst (λ n. IsBoardOf n b) c.requires c.side-side.ensures.board in
+    let good : IsBoardOf v.side b = subst (λ n. IsBoardOf n b) c.requires.side c.side-side.ensures.board in
     let margin : c.margin_of-margin.result ≡ margin_of c.args.bound (blank_parity b) = c.margin_of-margin.ensures
     ∙ ap (margin_of c.args.bound) c.blank_parity.ensures.parity in
     inr (cut_below v b c.args.bound c.margin_of-margin.result margin c.sets-sets.ensures.bundle good c.if-bound-margin.true)

@@ -1,0 +1,127 @@
+//! The memory for the edge words of the tables of a bundle, and the words, which are made as the bytes of the tables go.
+
+ghost use Rattle.std.specs.Prelude.{◌≡◌, IfOk, IfSome, false};
+ghost use Rattle.tab_file.specs.Tables.{Table};
+ghost use Rattle.tab_rule.specs.ExactTables.{IsExactFile};
+ghost use Rattle.set_sum.specs.Bundles.{ShownBundle};
+ghost use Rattle.puz_walk.specs.WordBundles.{HaveWords};
+ghost use Rattle.puz_search.specs.StoredGuides.{bundle_of};
+ghost use Rattle.byte_io.specs.Shelf.{Bytes};
+ghost use Rattle.pdb_run.specs.Answers.{all_bytes};
+ghost use Rattle.pdb_verdict.specs.FileBundles.{IsBundleOfFiles};
+ghost use Rattle.pdb_prove.specs.Steps.{HaveRooms, IsPreparedFor, placements_of};
+
+use edge_words::{WordRoom, Words, index_count};
+use pdb_verdict::known_table;
+use puz_search::Sets;
+use puz_walk::Outline;
+use set_sum::{Bundle, Part};
+use std::alloc::{AllocError, Global};
+use std::thread::Threads;
+use work_run::Workers;
+
+/// The most tables of a bundle that has words.
+const MOST_WORDED: u8 = 8;
+
+/// All memory for the words of the tables of a bundle, and what a search over them needs of the bundle besides.
+#[derive(Drop)]
+pub(crate) struct Prepared {
+    pub(crate) outline: Outline,
+    /// The memory for the words of each table.
+    rooms: Vec<WordRoom>,
+    /// Empty, with room for the words of all tables.
+    words: Vec<Words>,
+}
+
+/// How many placements the tables of a bundle have together. None where they are too many for words, where one is folded, or
+/// where its pattern has more indexes than there may be words.
+pub(crate) fn wordable(bundle: &Bundle<'_>) -> Option<u64>
+    ensures { IfSome result (λ count. count ≡ placements_of bundle.now) }
+{
+    if bundle.tables() > MOST_WORDED {
+        return None;
+    }
+    let mut count = 0;
+    for number in 0..bundle.tables() {
+        let pattern = match bundle.part(number) {
+            Part::Full(table) => table.pattern(),
+            Part::Folded(_) => return None,
+        };
+        index_count(&pattern)?;
+        count += pattern.count();
+    }
+    Some(count)
+}
+
+/// The memory for the words of the tables of a bundle, where there can be words.
+pub(crate) fn prepare(sets: Sets<'_>, alloc: Global) -> Result<Option<Prepared>, AllocError>
+    ensures { IfOk result (λ found. IfSome found (IsPreparedFor (bundle_of sets.entry))) }
+{
+    let Sets::Sums(bundle) = sets else {
+        return Ok(None);
+    };
+    let Some(outline) = Outline::of(bundle) else {
+        return Ok(None);
+    };
+    let Some(rooms) = rooms_for(bundle, alloc)? else {
+        return Ok(None);
+    };
+    let words = Vec::with_capacity(alloc, rooms.len())?;
+    Ok(Some(Prepared {
+        outline,
+        rooms,
+        words,
+    }))
+}
+
+/// The memory for the words of each table of a bundle, where there can be words of all of them.
+fn rooms_for(bundle: &Bundle<'_>, alloc: Global) -> Result<Option<Vec<WordRoom>>, AllocError>
+    ensures { IfOk result (λ found. IfSome found (λ rooms. HaveRooms bundle.now rooms.items)) }
+{
+    let mut rooms = Vec::new(alloc);
+    for number in 0..bundle.tables() {
+        let Some(room) = WordRoom::of(alloc, &bundle.part(number).pattern())? else {
+            return Ok(None);
+        };
+        rooms.push(room)?;
+    }
+    Ok(Some(rooms))
+}
+
+impl Prepared {
+    /// The outline, and the words of the tables of these files, made one after the other by all workers. The bytes of each file
+    /// are given up before the words of the next are made. No memory is taken.
+    pub(crate) fn fill<R: Threads + Sync, G>(
+        self,
+        files: Vec<Vec<u8>>,
+        workers: &Workers<'_, R, G>,
+    ) -> (Outline, Vec<Words>)
+        requires { (sets : Bytes) × (v : ShownBundle)
+            × IsBundleOfFiles false (all_bytes files.items) sets v × IsPreparedFor v self }
+        ensures outline { result.0 ≡ self.outline }
+        ensures words { (sets : Bytes) (v : ShownBundle)
+            → IsBundleOfFiles false (all_bytes files.items) sets v
+            → IsPreparedFor v self → HaveWords v result.1.items }
+    {
+        let Prepared {
+            outline,
+            mut rooms,
+            mut words,
+        } = self;
+        for file in files {
+            let room = rooms.remove(0);
+            words
+                .push(words_in(room, file.as_slice(), workers))
+                .unwrap();
+        }
+        (outline, words)
+    }
+}
+
+/// The words of the table of a file.
+fn words_in<R: Threads + Sync, G>(room: WordRoom, file: &[u8], workers: &Workers<'_, R, G>) -> Words
+    requires { (table : Table) × IsExactFile table file.now × (room ≡ table.pattern) }
+    ensures { (table : Table) × IsExactFile table file.now × (result.pattern ≡ table.pattern) }
+{
+    room.fill(&known_table(file), workers)
+}
