@@ -24,7 +24,8 @@ place_in p s cells last = (index_in p cells - s.low) * (p.side * p.side) + last
 -- the words of those placements of the span's runs of which this holds tell of their moves
 pub record AreTold (p : ShownPattern) (s : Span) (Done : ℕ → ℕ → Type 0) (words : List ℕ) : Type 0 where
   pub size : length words ≡ (s.high - s.low) * (p.side * p.side)
-  pub each : (cells : List ℕ) (last : ℕ) → IsRun p cells → IsFree p.side cells last → s.low ≤ index_in p cells → index_in p cells < s.high → Done (index_in p cells) last
+  pub each : (cells : List ℕ) (last : ℕ) → IsRun p cells → IsFree p.side cells last → s.low ≤ index_in p cells → index_in p cells < s.high
+      → Done (index_in p cells) last
       → IsEdgeWord p (with_last cells last) (slice_index words (place_in p s cells last))
 
 -- all of them

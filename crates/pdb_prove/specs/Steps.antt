@@ -1,5 +1,6 @@
 -- What the steps of a run of claims say.
-use Rattle.std.specs.Prelude.{◌≡◌, ℕ, ◌*◌, ◌<◌, ◌≤◌, ◌++◌, Bool, true, false, List, [], length, slice_get, slice_index_or, take, Option, Some, None, IfSome, IsNone, IsSome, MatchOption, Result, Ok, Err, MatchResult, Vec, vec_capacity}
+use Rattle.std.specs.Prelude.{◌≡◌, ℕ, ◌*◌, ◌<◌, ◌≤◌, ◌++◌, Bool, true, false, List, [], length, slice_get, slice_index_or, take}
+use Rattle.std.specs.Prelude.{Option, Some, None, IfSome, IsNone, IsSome, MatchOption, Result, Ok, Err, MatchResult, Vec, vec_capacity}
 use Rattle.std.specs.List.{AllZip, sum_by}
 use Rattle.puz_board.specs.MovesTexts.{Solves}
 use Rattle.pat_place.specs.Patterns.{ShownPattern}

@@ -111,7 +111,8 @@ pub(crate) fn tell_claims<H: Threads + Sync, G: Gate + Sync, I: Io>(
     ensures goes_on { help.old.before_words ≡ None
         → (help.new.before_words ≡ None) × (help.new.prepared ≡ None) }
     ensures same_streams { I.streams io.new ≡ I.streams io.old }
-    ensures told { let shown = map claim_shown asked.entry.claims.now in let v = bundle_of help.old.sets in
+    ensures told { let shown = map claim_shown asked.entry.claims.now in
+        let v = bundle_of help.old.sets in
         IsTelling v asked.entry.budget shown (I.world io.old) (I.world io.new) result }
 {
     let claims = asked.claims;
@@ -159,7 +160,8 @@ fn tell_batch<H: Threads + Sync, G: Gate + Sync, I: Io>(
     ensures goes_on { help.old.before_words ≡ None
         → (help.new.before_words ≡ None) × (help.new.prepared ≡ None) }
     ensures same_streams { I.streams io.new ≡ I.streams io.old }
-    ensures told { let shown = map claim_shown batch.now.claims.now in let v = bundle_of help.old.sets in
+    ensures told { let shown = map claim_shown batch.now.claims.now in
+        let v = bundle_of help.old.sets in
         IsTelling v batch.now.budget shown (I.world io.old) (I.world io.new) result }
 {
     // Where workers can't be started, all claims are left to be searched for one by one.
@@ -190,8 +192,8 @@ fn tell_each<H: Threads + Sync, G: Gate + Sync, I: Io>(
     ensures goes_on { help.old.before_words ≡ None
         → (help.new.before_words ≡ None) × (help.new.prepared ≡ None) }
     ensures same_streams { I.streams io.new ≡ I.streams io.old }
-    ensures told { let batch = known.now.batch.now in let shown = map claim_shown batch.claims.now in
-        let v = bundle_of help.old.sets in
+    ensures told { let batch = known.now.batch.now in
+        let shown = map claim_shown batch.claims.now in let v = bundle_of help.old.sets in
         IsTelling v batch.budget shown (I.world io.old) (I.world io.new) result }
 {
     let mut is_yes = true;
@@ -233,7 +235,8 @@ fn tell_next<H: Threads + Sync, G: Gate + Sync, I: Io>(
     ensures goes_on { help.old.before_words ≡ None
         → (help.new.before_words ≡ None) × (help.new.prepared ≡ None) }
     ensures same_streams { I.streams io.new ≡ I.streams io.old }
-    ensures told { (other : Claim) → let batch = known.now.batch.now in let v = bundle_of help.old.sets in
+    ensures told { (other : Claim) → let batch = known.now.batch.now in
+        let v = bundle_of help.old.sets in
         let shown = claim_shown (slice_index_or batch.claims.now number other) ∷ [] in
         IsToldOrWanted v batch.budget shown (I.world io.old) (I.world io.new) result }
 {
@@ -266,7 +269,8 @@ fn tell<I: Io>(
     ensures one { IfOk result IsSome }
     ensures same_streams { I.streams io.new ≡ I.streams io.old }
     ensures told { let batch = batch.now in let shown = claim_shown claim.now ∷ [] in
-        IsToldOrWanted (bundle_of batch.sets) batch.budget shown (I.world io.old) (I.world io.new) result }
+        IsToldOrWanted (bundle_of batch.sets) batch.budget shown
+        (I.world io.old) (I.world io.new) result }
 {
     match io.write_text(line_on(claim, found).as_str()) {
         Ok(()) => Ok(Some(found.is_yes())),

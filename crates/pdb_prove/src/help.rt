@@ -175,7 +175,8 @@ impl<'a> Help<'a> {
         workers: &Workers<'_, H, G>,
     ) -> Finding
         requires { IsPosed (bundle_of self.now.sets) posed.claim.now posed.start.now }
-        ensures { IsFoundFor (bundle_of self.now.sets) budget (claim_shown posed.entry.claim.now) result }
+        ensures { let shown = claim_shown posed.entry.claim.now in
+            IsFoundFor (bundle_of self.now.sets) budget shown result }
     {
         let automaton = match &self.strings {
             Some(strings) => strings,

@@ -41,7 +41,8 @@ impl<'a> WordBundle<'a> {
     /// The bundle with this outline and the words of each of its tables. There is none where there aren't as many words as
     /// tables, or where the words with a table's number aren't those of its pattern.
     pub fn of(outline: &'a Outline, words: &'a [Words]) -> Option<WordBundle<'a>>
-        ensures some { IfSome result (λ made. (made ≡ outline.now) × HaveWords outline.now words.now) }
+        ensures some { IfSome result
+            (λ made. (made ≡ outline.now) × HaveWords outline.now words.now) }
         ensures none { IfNone result (¬ HaveWords outline.now words.now) }
     {
         // Asked only for what its contract says.

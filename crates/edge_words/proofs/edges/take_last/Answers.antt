@@ -84,7 +84,8 @@ lasts-preserved c =
     c.last_edge-rises.result
     (subst (λ i. TellsOfMove p (with_last cells last) i (move_of number) c.last_edge-rises.result) tile c.last_edge-rises.ensures)
     c.from-in-lasts.result c.noted.result c.from-in-lasts.ensures
-    (subst (λ i. IsWith c.last_edge-rises.result number (slice_index c.lasts.words i) c.noted.result) (c.from.ensures ∙ sym c.from-in-lasts.ensures) c.noted.ensures)
+    (subst (λ i. IsWith c.last_edge-rises.result number (slice_index c.lasts.words i) c.noted.result)
+    (c.from.ensures ∙ sym c.from-in-lasts.ensures) c.noted.ensures)
 
 -- when no cell is left, the words tell of the last tile's move too
 pub returns : goal.returns

@@ -6,7 +6,8 @@ use Rattle.pdb_prove.proofs.answers.answer_by.Goals as goal
 pub returns-in-Ok-Shortest : goal.returns-in-Ok-Shortest
 returns-in-Ok-Shortest g c =
     let asked = rw c.in-Ok-Shortest.field-0-is at c.in-Ok-Shortest.ensures.ok in
-    shortest_for _ _ _ _ (asks_shown c.args.posed.claim.now.asks) asked (c.found_shortest.ensures _ _ (rw c.requires.board at c.shortest_together-deepened.ensures))
+    shortest_for _ _ _ _ (asks_shown c.args.posed.claim.now.asks) asked
+    (c.found_shortest.ensures _ _ (rw c.requires.board at c.shortest_together-deepened.ensures))
 
 -- what all workers find by a search for less than the claim's moves is right for the claim
 pub returns-in-Ok-Moves : goal.returns-in-Ok-Moves

@@ -1,4 +1,4 @@
-use Rattle.std.proofs.Common.{◌≡◌, ◌∙◌, map, refl, sym}
+use Rattle.std.proofs.Common.{◌∙◌, map, refl, sym}
 use Rattle.std.proofs.lemmas.List.{length-map}
 use Rattle.claim_text.specs.Shown.{claim_shown}
 use Rattle.pdb_request.specs.Asked.{prove_shown}

@@ -1,8 +1,7 @@
-use Rattle.std.proofs.Common.{◌≡◌, ◌∙◌, ◌+◌, ◌-◌, ap, arith, drop, length, map, subst, sym, take}
+use Rattle.std.proofs.Common.{◌≡◌, ◌∙◌, ◌+◌, ◌-◌, arith, length, map, sym}
 use Rattle.std.specs.List.{All}
 use Rattle.std.proofs.lemmas.List.{length-map}
 use Rattle.std.proofs.lemmas.List.Elements.{All-drop, All-take}
-use Rattle.puz_walk.specs.WordBundles.{HaveWords}
 use Rattle.claim_text.specs.Lines.{HasFewLetters}
 use Rattle.claim_text.specs.Shown.{claim_shown}
 use Rattle.claim_text.specs.declared.claims.Claim.{Claim}
@@ -19,7 +18,8 @@ pub returns-in-Err-clause-ends : goal.returns-in-Err-clause-ends
 returns-in-Err-clause-ends g c = λ old are full.
     let made = c.make_full_ready-digested.ensures in
     c.in-Err.ensures.ended (files_read c.args.read) old are (rw (c.as_slice-text.ensures.value, c.as_slice.ensures.value) at made.digested)
-    (rw (c.as_slice-text.ensures.value, c.as_slice-sets.ensures.value, c.as_slice.ensures.value, ← full) at made.ready) (rw (c.as_slice-text.ensures.value, c.as_slice-sets.ensures.value, c.as_slice.ensures.value, ← full) at made.fault)
+    (rw (c.as_slice-text.ensures.value, c.as_slice-sets.ensures.value, c.as_slice.ensures.value, ← full) at made.ready)
+    (rw (c.as_slice-text.ensures.value, c.as_slice-sets.ensures.value, c.as_slice.ensures.value, ← full) at made.fault)
 
 -- where the lines over the tables aren't all written, the run is cut short
 pub returns-in-Err-tell_over_tables-clause-ends : goal.returns-in-Err-tell_over_tables-clause-ends

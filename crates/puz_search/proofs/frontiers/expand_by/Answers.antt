@@ -1,5 +1,5 @@
-use Rattle.std.proofs.Common.{◌≡◌, false, true, IfNone, IfSome, inr, subst, sym, ◌∙◌, arith}
-use Rattle.puz_walk.specs.Walks.{IsClosed, IsOpen, ShownWalk}
+use Rattle.std.proofs.Common.{◌≡◌, false, true, IfNone, IfSome, inr, subst, sym, arith}
+use Rattle.puz_walk.specs.Walks.{IsClosed, IsOpen}
 use Rattle.puz_board.specs.Boards.{IsGoal}
 use Rattle.puz_search.specs.Frontiers.{Adds}
 use Rattle.puz_search.specs.Nodes.{node_fails, walk_to}

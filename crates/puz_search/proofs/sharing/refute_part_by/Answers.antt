@@ -34,5 +34,5 @@ returns-clause-within g c boards fails few =
       prefix = c.of_part.result;
     } in
     if_ok (IsWhole s c.args.budget) (λ answer. answer ≡ Refuted boards)
-    (part_within s c.side-side.ensures.guide c.args.claim.now.part c.of_part.ensures.part c.of_part.ensures.ahead c.of_part.ensures.rank c.args.budget boards fails
-    few) c.search_by.result c.search_by.ensures
+    (part_within s c.side-side.ensures.guide c.args.claim.now.part c.of_part.ensures.part c.of_part.ensures.ahead c.of_part.ensures.rank c.args.budget
+    boards fails few) c.search_by.result c.search_by.ensures

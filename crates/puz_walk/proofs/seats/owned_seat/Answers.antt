@@ -23,7 +23,8 @@ step_for-requires-clause-few c =
     let owner = c.args.owner in
     let is = c.requires.owner.1 in
     let there = member_there v c.sets-sets.ensures.bundle c.args.set c.requires.set is.number owner.member is.member in
-    subst (λ p. index_count p ≤ most_words) (sym (pattern (goal.at.step_for-requires-clause-few c).After-part)) (c.requires.tables.each owner.member.table there).few
+    subst (λ p. index_count p ≤ most_words) (sym (pattern (goal.at.step_for-requires-clause-few c).After-part))
+    (c.requires.tables.each owner.member.table there).few
 
 -- the owner's tile is one of it
 pub step_for-requires-clause-tile : goal.step_for-requires-clause-tile
@@ -38,5 +39,6 @@ returns c =
       table = refl;
       place = c.member_place.ensures;
       bit = c.bit_for.ensures;
-      step = subst (λ p. IsIndexStep p owner.tile (move_for owner.member c.args.mv) c.step_for.result) (pattern (goal.at.returns c).After-part) c.step_for.ensures;
+      step = subst (λ p. IsIndexStep p owner.tile (move_for owner.member c.args.mv) c.step_for.result)
+          (pattern (goal.at.returns c).After-part) c.step_for.ensures;
     }

@@ -1,4 +1,4 @@
-use Rattle.std.proofs.Common.{◌≡◌, ◌*◌, ◌<◌, ◌≤◌, length, slice_index, take, sym, ◌∙◌, ap, subst, arith}
+use Rattle.std.proofs.Common.{◌≡◌, ◌*◌, length, slice_index, take, sym, ◌∙◌, ap, subst, arith}
 use Rattle.puz_board.specs.Boards.{IsBoardOf}
 use Rattle.tab_rule.specs.declared.tables.Count.TheVariants.{Finite}
 use Rattle.puz_walk.proofs.StartLemmas.{sum_said}
