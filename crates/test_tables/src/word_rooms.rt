@@ -135,6 +135,9 @@ fn want_of_memory_for_words_is_answered_and_a_second_room_is_filled_in(
         Ok(words) => words,
         Err(AllocError) => Words::of(&table, &one)?,
     };
-    assert_eq!(rt; expect_bits(&rt, &table, &words.expect(&rt, "words")), *told);
+    assert_eq!(rt;
+        expect_bits(&rt, &table, &words.expect(&rt, "words")),
+        *told
+    );
     Ok(())
 }
