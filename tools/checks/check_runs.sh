@@ -891,15 +891,16 @@ told_shares_alone() {
     [ -s "$work/errors" ] && ! grep -Evq '^pdb_cli: all_of_side_3, 1 of 1: (100|[1-9]?[0-9]) percent of 1418 blocks or lemmas begun$' "$work/errors"
 }
 
-# A run with these words on a stack of 128 kilobytes, which each process has from its start; what a run needs beyond it the
-# system may refuse where memory is limited, and then ends the run by a signal.
+# A run with these words on a stack of 128 kilobytes, or as many as `kilobytes` says. Each process has 128 from its start; what
+# a run needs beyond it the system may refuse where memory is limited, and then ends the run by a signal.
+kilobytes=128
 limit_stack() {
     run "$@"
     own_status=$status
     mv "$work/output" "$work/own_answer"
     status=0
-    (ulimit -s 128 && exec env -i "$bare" "$@") <"$input" >"$work/output" 2>"$work/errors" || status=$?
-    check "$* with the stack of a start" same_answer
+    (ulimit -s "$kilobytes" && exec env -i "$bare" "$@") <"$input" >"$work/output" 2>"$work/errors" || status=$?
+    check "$* with a stack of $kilobytes kilobytes" same_answer
 }
 
 most_tables=(F12 F12 F12 F12 F12 F12 F12 F12 F12 F12 F12 F12 F12 F12 F12 F12)
@@ -919,9 +920,11 @@ limit_stack solve next_board one_set made F123
 limit_stack solve board one_set made "${most_tables[@]}" --workers 64
 limit_stack solve board sixteen_mirrors made "${most_tables[@]}" --workers 64
 limit_stack solve board sixteen_mirrors made "${most_tables[@]}" --workers 64 --fold
+kilobytes=208
 limit_stack prove true_claims one_set "${most_tables[@]}" --workers 64
 limit_stack prove false_claims sixteen_mirrors "${most_tables[@]}" --workers 64 --fold
 limit_stack prove other_part_claims one_set "${most_tables[@]}" --workers 64
+kilobytes=128
 skipped='5 of 5'
 limit_stack parts board 6 65535 part_lines
 skipped=
