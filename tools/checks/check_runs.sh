@@ -872,7 +872,6 @@ for which in LAST=100 EVERY=997; do
     check "requests of a hard claim are refused, $which" [ "$status" = 0 ]
     check "a hard claim does without help, $which" told 'no memory: 0, '
 done
-rm hard_claim
 
 #
 # The stack.
@@ -891,16 +890,15 @@ told_shares_alone() {
     [ -s "$work/errors" ] && ! grep -Evq '^pdb_cli: all_of_side_3, 1 of 1: (100|[1-9]?[0-9]) percent of 1418 blocks or lemmas begun$' "$work/errors"
 }
 
-# A run with these words on a stack of 128 kilobytes, or as many as `kilobytes` says. Each process has 128 from its start; what
-# a run needs beyond it the system may refuse where memory is limited, and then ends the run by a signal.
-kilobytes=128
+# A run with these words on a stack of 128 kilobytes. Each process has them from its start; what a run needs beyond them the
+# system may refuse where memory is limited, and then ends the run by a signal.
 limit_stack() {
     run "$@"
     own_status=$status
     mv "$work/output" "$work/own_answer"
     status=0
-    (ulimit -s "$kilobytes" && exec env -i "$bare" "$@") <"$input" >"$work/output" 2>"$work/errors" || status=$?
-    check "$* with a stack of $kilobytes kilobytes" same_answer
+    (ulimit -s 128 && exec env -i "$bare" "$@") <"$input" >"$work/output" 2>"$work/errors" || status=$?
+    check "$* with a stack of 128 kilobytes" same_answer
 }
 
 most_tables=(F12 F12 F12 F12 F12 F12 F12 F12 F12 F12 F12 F12 F12 F12 F12 F12)
@@ -920,15 +918,17 @@ limit_stack solve next_board one_set made F123
 limit_stack solve board one_set made "${most_tables[@]}" --workers 64
 limit_stack solve board sixteen_mirrors made "${most_tables[@]}" --workers 64
 limit_stack solve board sixteen_mirrors made "${most_tables[@]}" --workers 64 --fold
-kilobytes=208
 limit_stack prove true_claims one_set "${most_tables[@]}" --workers 64
 limit_stack prove false_claims sixteen_mirrors "${most_tables[@]}" --workers 64 --fold
+limit_stack prove false_claims sixteen_mirrors "${most_tables[@]}" --workers 64
 limit_stack prove other_part_claims one_set "${most_tables[@]}" --workers 64
-kilobytes=128
+limit_stack prove true_claims one_set F12 F12 F12 F12 F12 F12 F12 F12 --workers 64
+# For this claim words are made.
+limit_stack prove hard_claim one_set three_of_side_3 --workers 64
 skipped='5 of 5'
 limit_stack parts board 6 65535 part_lines
 skipped=
-rm -f made
+rm -f made hard_claim
 
 #
 # Progress.

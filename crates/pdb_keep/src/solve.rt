@@ -1,17 +1,18 @@
 //! Searches for a shortest solution, and keeps the log that proves it shortest once both are checked.
 
-ghost use Rattle.std.specs.Prelude.{◌≡◌, ◌∷◌, Bool, Ok, List, ℕ, [], length, IfErr, IfOk, IfSome};
+ghost use Rattle.std.specs.Prelude.{◌≡◌, ◌∷◌, Bool, Err, Ok, List, ℕ, [], length, IfErr, IfOk, IfSome};
 ghost use Rattle.puz_board.specs.BoardTexts.{Spells};
 ghost use Rattle.puz_board.specs.Boards.{side_of};
 ghost use Rattle.pdb_request.specs.Asked.{solve_shown};
 ghost use Rattle.pdb_run.specs.Writing.{digests_of};
-ghost use Rattle.pdb_run.specs.Answers.{IsMadeBy, IsReplyOf, digest_lines};
+ghost use Rattle.pdb_run.specs.Answers.{IsMadeBy, IsReplyOf, all_bytes, digest_lines};
 ghost use Rattle.pdb_run.specs.Runs.{Ends};
 ghost use Rattle.pdb_verdict.specs.Bound.{TakesMemoryForBound};
 ghost use Rattle.pdb_verdict.specs.FileBundles.{IsBundleOfFiles, IsReadBundle};
 ghost use Rattle.pdb_verdict.specs.Inputs.{log_files};
 ghost use Rattle.pdb_verdict.specs.Optimal.{IsOptimumOver, IsOptimumResult};
 ghost use Rattle.pdb_verdict.specs.Replay.{puzzle_of};
+ghost use Rattle.pdb_verdict.specs.declared.verdicts.Fault.TheVariants as fault;
 ghost use Rattle.pdb_keep.specs.Solve.{IsSearchable, TellsSearch, letters_of, reply_to_search, searched, solve_plan};
 ghost use Rattle.pdb_keep.specs.Steps.{CameTo, HasItsMoves, IsGivenUp, IsSearchAnswer};
 
@@ -27,7 +28,7 @@ use pdb_run::{
     keep_and_conclude, read_inputs_and_try,
 };
 use pdb_verdict::{Bundling, Fault, optimum_over, over_tables, settled, told};
-use puz_board::Board;
+use puz_board::{Board, BoardFault};
 use puz_make::{Found, solve_watched};
 use set_sum::Bundle;
 use std::sync::Wait;
@@ -61,6 +62,7 @@ pub fn run_solve<H: Threads + Wait + Sync, G: Gate + Sync, I: Io>(
 }
 
 /// The answer to a search. The board text comes before all else, and takes no memory.
+#[inline(never)] // so that the stack hasn't the values of what is kept
 fn answer_search<'i, H: Threads + Wait + Sync, G: Gate + Sync>(
     search: &'i mut Solve<'_, Vec<u8>>,
     workers: &Workers<'_, H, G>,
@@ -87,12 +89,23 @@ fn answer_search<'i, H: Threads + Wait + Sync, G: Gate + Sync>(
             answer_of(digested, outcome)
         }
         Err(refused) => {
-            let tables = tables.as_slice();
-            let refuse = || Err(Fault::Board(refused));
-            let (digested, outcome) = digested_beside(workers, tables, None, refuse);
+            let (digested, outcome) = refused_beside(workers, tables.as_slice(), refused);
             answer_of(digested, outcome)
         }
     }
+}
+
+/// That a board is refused, and the digest lines of the tables.
+#[inline(never)] // so that the stack has the values of one way alone
+fn refused_beside<'t, H: Threads + Wait + Sync, G: Gate + Sync>(
+    workers: &Workers<'_, H, G>,
+    tables: &'t [Vec<u8>],
+    refused: BoardFault,
+) -> (Digested<'t>, Result<Option<Made>, Fault>)
+    ensures digested { digest_lines result.0 ≡ digests_of (all_bytes tables.entry.now) }
+    ensures outcome { result.1 ≡ Err (fault.Board refused) }
+{
+    digested_beside(workers, tables, None, || Err(Fault::Board(refused)))
 }
 
 /// The answer on what comes of a search over tables with these digest lines.

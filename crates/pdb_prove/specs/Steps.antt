@@ -131,7 +131,7 @@ pub record HaveRooms (v : ShownBundle) (rooms : List ShownPattern) : Type 0 wher
 -- there is all memory for the words of the tables of a bundle
 pub record IsPreparedFor (v : ShownBundle) (prepared : Prepared) : Type 0 where
   pub few : length v.tables ≤ most_worded
-  pub outline : prepared.outline ≡ v
+  pub outline : prepared.outline.value ≡ v
   pub rooms : HaveRooms v prepared.rooms.items
   pub empty : prepared.words.items ≡ []
   pub room : length v.tables ≤ vec_capacity prepared.words

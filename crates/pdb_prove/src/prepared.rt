@@ -4,6 +4,7 @@ ghost use Rattle.std.specs.Prelude.{◌≡◌, IfOk, IfSome, false};
 ghost use Rattle.tab_file.specs.Tables.{Table};
 ghost use Rattle.tab_rule.specs.ExactTables.{IsExactFile};
 ghost use Rattle.set_sum.specs.Bundles.{ShownBundle};
+ghost use Rattle.puz_walk.specs.Outlines.{CanHaveWords};
 ghost use Rattle.puz_walk.specs.WordBundles.{HaveWords};
 ghost use Rattle.puz_search.specs.StoredGuides.{bundle_of};
 ghost use Rattle.byte_io.specs.Shelf.{Bytes};
@@ -26,7 +27,7 @@ const MOST_WORDED: u8 = 8;
 /// All memory for the words of the tables of a bundle, and what a search over them needs of the bundle besides.
 #[derive(Drop)]
 pub(crate) struct Prepared {
-    pub(crate) outline: Outline,
+    pub(crate) outline: Box<Outline>,
     /// The memory for the words of each table.
     rooms: Vec<WordRoom>,
     /// Empty, with room for the words of all tables.
@@ -60,7 +61,7 @@ pub(crate) fn prepare(sets: Sets<'_>, alloc: Global) -> Result<Option<Prepared>,
     let Sets::Sums(bundle) = sets else {
         return Ok(None);
     };
-    let Some(outline) = Outline::of(bundle) else {
+    let Some(outline) = boxed_outline(bundle, alloc)? else {
         return Ok(None);
     };
     let Some(rooms) = rooms_for(bundle, alloc)? else {
@@ -72,6 +73,18 @@ pub(crate) fn prepare(sets: Sets<'_>, alloc: Global) -> Result<Option<Prepared>,
         rooms,
         words,
     }))
+}
+
+/// The outline of a bundle, where there is one. It is too large to be handed about on the stack.
+#[inline(never)] // so that no search has the room for it on the stack
+fn boxed_outline(bundle: &Bundle<'_>, alloc: Global) -> Result<Option<Box<Outline>>, AllocError>
+    ensures { IfOk result (λ found.
+        IfSome found (λ outline. (outline.value ≡ bundle.now) × CanHaveWords bundle.now)) }
+{
+    match Outline::of(bundle) {
+        Some(outline) => Ok(Some(Box::new(alloc, outline)?)),
+        None => Ok(None),
+    }
 }
 
 /// The memory for the words of each table of a bundle, where there can be words of all of them.
@@ -95,10 +108,10 @@ impl Prepared {
         self,
         files: Vec<Vec<u8>>,
         workers: &Workers<'_, R, G>,
-    ) -> (Outline, Vec<Words>)
+    ) -> (Box<Outline>, Vec<Words>)
         requires { (sets : Bytes) × (v : ShownBundle)
             × IsBundleOfFiles false (all_bytes files.items) sets v × IsPreparedFor v self }
-        ensures outline { result.0 ≡ self.outline }
+        ensures outline { result.0.value ≡ self.outline.value }
         ensures words { (sets : Bytes) (v : ShownBundle)
             → IsBundleOfFiles false (all_bytes files.items) sets v
             → IsPreparedFor v self → HaveWords v result.1.items }

@@ -18,7 +18,7 @@ use claim_text::{Claim, ClaimsFault, MOST_CLAIMS, read_claims};
 use move_strings::Automaton;
 use pdb_request::Prove;
 use pdb_run::Digested;
-use pdb_verdict::{Bundling, Fault, over_full_tables, over_tables};
+use pdb_verdict::{Bundling, Fault, over_kept_tables, over_tables};
 use puz_walk::Start;
 use set_sum::Bundle;
 use std::alloc::Global;
@@ -93,7 +93,14 @@ where
 {
     match read_claims(workers.alloc, text) {
         Ok(claims) => {
-            let (digested, bundle) = over_full_tables(tables, Some(text), sets, workers, identity);
+            let bundling = Bundling { sets, fold: false };
+            let (digested, bundle) = over_kept_tables(
+                tables,
+                Some(text),
+                bundling,
+                workers,
+                identity,
+            );
             (digested, ready_with(workers.alloc, claims, bundle))
         }
         Err(fault) => (Digested::Files(tables, Some(text)), Err(of_claims(fault))),

@@ -58,6 +58,7 @@ pub fn run_prove<H: Threads + Wait + Sync, G: Gate + Sync, I: Io>(
 }
 
 /// The rest of a run over the inputs that were read, where the tables are folded.
+#[inline(never)] // so that the stack has the values of one way alone
 fn run_folded<H: Threads + Wait + Sync, G: Gate + Sync, I: Io>(
     command: &Proving<'_, '_>,
     read: Prove<Vec<u8>, Vec<u8>>,
@@ -83,6 +84,7 @@ fn run_folded<H: Threads + Wait + Sync, G: Gate + Sync, I: Io>(
 
 /// The rest of a run over the inputs that were read, where the tables are full. Once words are wanted and there is memory for them,
 /// the bundle is given up, and then the bytes of each table as its words are made.
+#[inline(never)] // so that the stack has the values of one way alone
 fn run_full<H: Threads + Wait + Sync, G: Gate + Sync, I: Io>(
     command: &Proving<'_, '_>,
     read: Prove<Vec<u8>, Vec<u8>>,
@@ -149,7 +151,7 @@ struct Wanted {
 /// The words of the tables of a bundle, with what a search over them needs besides.
 #[derive(Drop)]
 struct Worded {
-    outline: Outline,
+    outline: Box<Outline>,
     words: Vec<Words>,
     strings: Option<Automaton>,
 }
@@ -159,7 +161,7 @@ impl Wanted {
     fn fill<R: Threads + Sync, G>(self, files: Vec<Vec<u8>>, workers: &Workers<'_, R, G>) -> Worded
         requires { (sets : Bytes) × (v : ShownBundle)
             × IsBundleOfFiles false (all_bytes files.items) sets v × IsPreparedFor v self.prepared }
-        ensures outline { result.outline ≡ self.prepared.outline }
+        ensures outline { result.outline.value ≡ self.prepared.outline.value }
         ensures words { (sets : Bytes) (v : ShownBundle)
             → IsBundleOfFiles false (all_bytes files.items) sets v
             → IsPreparedFor v self.prepared → HaveWords v result.words.items }
@@ -231,20 +233,22 @@ fn tell_over_words<H: Threads + Sync, G: Gate + Sync, I: Io>(
     io: &mut I,
 ) -> Result<bool, WriteFault>
     requires few { All (λ claim. HasFewLetters (claim_shown claim)) asked.claims.now }
-    requires posed { ArePosed worded.outline asked.claims.now asked.starts.now }
-    requires words { HaveWords worded.outline worded.words.items }
-    requires reversals { reversals.now.side ≡ worded.outline.side }
-    requires strings { IfSome worded.strings (λ strings. strings.side ≡ worded.outline.side) }
+    requires posed { ArePosed worded.outline.value asked.claims.now asked.starts.now }
+    requires words { HaveWords worded.outline.value worded.words.items }
+    requires reversals { reversals.now.side ≡ worded.outline.value.side }
+    requires strings { IfSome worded.strings
+        (λ strings. strings.side ≡ worded.outline.value.side) }
     ensures same_streams { I.streams io.new ≡ I.streams io.old }
     ensures told { let shown = map claim_shown asked.entry.claims.now in
-        AreTold worded.outline asked.entry.budget shown (I.world io.old) (I.world io.new) result }
+        AreTold worded.outline.value asked.entry.budget shown
+        (I.world io.old) (I.world io.new) result }
 {
     let Worded {
         outline,
         words,
         strings,
     } = worded;
-    let Some(bundle) = WordBundle::of(&outline, words.as_slice()) else {
+    let Some(bundle) = WordBundle::of(outline.as_ref(), words.as_slice()) else {
         unreachable!();
     };
     let mut help = Help::over_words(&bundle, reversals, strings);

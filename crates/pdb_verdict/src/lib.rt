@@ -36,5 +36,5 @@ pub use replay_command::run_replay;
 pub use reports::{digests, line, report, settled, told, told_or_memory};
 pub use table::verify_table;
 pub use table_command::run_table;
-pub use tables::{over_full_tables, over_tables};
+pub use tables::{over_kept_tables, over_tables};
 pub use verdicts::{Fault, Verdict};

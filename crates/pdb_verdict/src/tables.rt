@@ -42,25 +42,15 @@ where
 {
     if bundling.fold && files.len() <= FILES_BESIDE {
         let given = mem::replace(files, Vec::new(workers.alloc));
-        let (mut digests, parts) = fold_files(given, workers);
-        let bundle = bundle_of(parts, bundling.sets);
-        let check = || -> A
-            requires { F.pre find bundle }
-            ensures { F.post find bundle.entry result }
-        { find(bundle) };
-        let found = match last {
-            Some(last) => with_digest(workers, &mut digests, last, check),
-            None => check(),
-        };
-        return (Digested::Lines(digests), found);
+        return over_folded_tables(given, last, bundling.sets, workers, find);
     }
-    over_kept(files.as_slice(), last, bundling, workers, find)
+    over_kept_tables(files.as_slice(), last, bundling, workers, find)
 }
 
-/// As `over_tables` where no table is folded. The files are only borrowed, so that a caller can give up their bytes once neither
-/// what is found nor the digest lines are needed.
-pub fn over_full_tables<'t, H, G, A, F>(
-    files: &'t [Vec<u8>],
+/// As `over_tables` where each table is folded, and the bytes of its file are given up.
+#[inline(never)] // so that the stack has the values of one way alone
+fn over_folded_tables<'t, H, G, A, F>(
+    files: Vec<Vec<u8>>,
     last: Option<&'t [u8]>,
     sets: &[u8],
     workers: &Workers<'_, H, G>,
@@ -70,18 +60,30 @@ where
     H: Threads + Wait + Sync,
     G: Gate + Sync,
     F: FnOnce(Result<Bundle<'t>, Fault>) -> A,
-    requires { IfRead false (all_bytes files.now) sets.now (F.pre find) }
-    ensures digested { let all = all_files files.entry.now last.entry in
+    requires few { length files.items ≤ FILES_BESIDE }
+    requires read { IfRead true (all_bytes files.items) sets.now (F.pre find) }
+    ensures digested { let all = all_files files.items last.entry in
         digest_lines result.0 ≡ digests_of all }
-    ensures found { IsReadAnd false (all_bytes files.entry.now) sets.entry.now
+    ensures found { IsReadAnd true (all_bytes files.items) sets.entry.now
         (λ read. F.post find read result.1) }
 {
-    let bundling = Bundling { sets, fold: false };
-    over_kept(files, last, bundling, workers, find)
+    let (mut digests, parts) = fold_files(files, workers);
+    let bundle = bundle_of(parts, sets);
+    let check = || -> A
+        requires { F.pre find bundle }
+        ensures { F.post find bundle.entry result }
+    { find(bundle) };
+    let found = match last {
+        Some(last) => with_digest(workers, &mut digests, last, check),
+        None => check(),
+    };
+    (Digested::Lines(digests), found)
 }
 
-/// As `over_tables` where the bytes of all files stay.
-fn over_kept<'t, H, G, A, F>(
+/// As `over_tables` where the bytes of all files stay. They are only borrowed, so that a caller can give them up once neither what
+/// is found nor the digest lines are needed.
+#[inline(never)] // so that the stack has the values of one way alone
+pub fn over_kept_tables<'t, H, G, A, F>(
     files: &'t [Vec<u8>],
     last: Option<&'t [u8]>,
     bundling: Bundling<'_>,

@@ -18,6 +18,7 @@ pub(crate) const MOST_PLACEMENTS: usize = BLOCK_RANKS as usize;
 pub(crate) const MOST_ENTRIES: usize = MOST_PLACEMENTS * 8;
 
 /// So many placements in the order of their ranks, from this rank on. What stands behind them counts for nothing.
+#[inline(never)] // so that the stack has the columns of one step alone
 pub(crate) fn placements_from(
     pattern: &Pattern,
     first: u64,

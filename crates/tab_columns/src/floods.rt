@@ -15,6 +15,7 @@ use tab_file::TableView;
 use tab_lanes::flood;
 
 /// The mask of each slot's region, and 0 for a slot without one.
+#[inline(never)] // so that the stack has the columns of one step alone
 pub(crate) fn masks_of(table: &TableView<'_>, placements: &[Placement]) -> [u32; MOST_ENTRIES]
     requires few { length placements.now ≤ block_ranks }
     requires placements { AreOf table.now.pattern placements.now }

@@ -21,6 +21,7 @@ const MOST_CELLS: usize = 25;
 
 /// The least entry one move away from each slot of these placements, and that of no way home where there is none. The
 /// masks are those of the slots' regions.
+#[inline(never)] // so that the stack has the columns of one step alone
 pub(crate) fn least_near(
     table: &TableView<'_>,
     placements: &[Placement],
