@@ -1,11 +1,15 @@
 //! What a run says: how often it writes, and that digests come at all.
 
+use crate::same::{equal, same};
 use crate::sha256;
 use byte_io::streams::WriteFault;
 use pdb_run::{CommandAnswer, Digested, beside, lines, say, say_digests};
-use std::alloc::{AllocError, Global};
+use std::alloc::{AllocError, AllocGlobal, Global};
 use std::io::ErrorKind;
+use std::process::Abort;
+use std::sync::Wait;
 use std::test::Fail;
+use std::thread::Threads;
 use test_streams::{Failing, SampleWriter};
 use work_run::{OpenGate, Workers};
 
@@ -55,7 +59,7 @@ fn more_than_a_page_is_written_whole(rt: HostRuntime) -> Result<(), Fail> {
     let said = say_digests(files.as_slice(), None, &mut out);
     assert!(rt; said.is_ok() && out.calls() == 3);
     let taken = out.taken();
-    assert_eq!(rt; taken.len(), 120 * 72);
+    same(&rt, &taken.len(), &(120 * 72));
     assert!(rt; taken.chunks(72).all(|line| line == sha256::OF_NOTHING));
     Ok(())
 }
@@ -67,7 +71,7 @@ fn pages_before_a_write_that_fails_are_taken(rt: HostRuntime) -> Result<(), Fail
     let mut out = taking(alloc, 2);
     let said = say_digests(files.as_slice(), None, &mut out);
     assert!(rt; said == Err(WriteFault::F3));
-    assert_eq!(rt; out.taken().len(), 8_192);
+    same(&rt, &out.taken().len(), &8_192);
     Ok(())
 }
 
@@ -97,24 +101,43 @@ fn known_digests(alloc: Global, count: usize) -> Result<Vec<u8>, AllocError> {
     Ok(lines)
 }
 
+/// Ends the test where digests that are made beside a check, by so many workers, are wrong, or none are made though there are workers
+/// and at most sixteen files.
+fn expect_beside<H: AllocGlobal + Threads + Wait + Abort + Sync>(
+    rt: &H,
+    workers: u8,
+    files: &[Vec<u8>],
+    want: &[u8],
+) {
+    let workers = match workers {
+        1..=64 => Workers::new(rt, rt.alloc(), workers, &OpenGate),
+        _ => panic!(rt; "1 to 64 workers"),
+    };
+    let (digests, answer) = beside(&workers, files, Some(b""), || 6u8);
+    let are_right = match digests {
+        Some(digests) => equal(&digests.as_slice(), &want),
+        None => workers.count == 1 || files.len() > 16,
+    };
+    assert!(rt; are_right && answer == 6);
+}
+
+/// The same of so many files, by some workers.
+fn expect_of_files<H: AllocGlobal + Threads + Wait + Abort + Sync>(
+    rt: &H,
+    count: usize,
+) -> Result<(), AllocError> {
+    let files = known_files(rt.alloc(), count)?;
+    let want = known_digests(rt.alloc(), count)?;
+    for workers in [1u8, 2, 3, 7, 64] {
+        expect_beside(rt, workers, files.as_slice(), want.as_slice());
+    }
+    Ok(())
+}
+
 #[test]
 fn digests_are_made_beside_a_check(rt: HostRuntime) -> Result<(), Fail> {
-    let alloc = rt.alloc();
     for count in [0usize, 1, 2, 3, 5, 16, 17, 40] {
-        let files = known_files(alloc, count)?;
-        let want = known_digests(alloc, count)?;
-        for workers in [1u8, 2, 3, 7, 64] {
-            let workers = match workers {
-                1..=64 => Workers::new(&rt, alloc, workers, &OpenGate),
-                _ => panic!(rt; "1 to 64 workers"),
-            };
-            let (digests, answer) = beside(&workers, files.as_slice(), Some(b""), || 6u8);
-            let are_right = match digests {
-                Some(digests) => digests.as_slice() == want.as_slice(),
-                None => workers.count == 1 || count > 16,
-            };
-            assert!(rt; are_right && answer == 6);
-        }
+        expect_of_files(&rt, count)?;
     }
     Ok(())
 }

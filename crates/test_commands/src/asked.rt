@@ -1,9 +1,11 @@
 //! What runs are asked for, and what the starts of their files tell.
 
+use crate::same::same_text;
 use pdb_early::{Look, line_ahead};
 use pdb_reason::Reason;
 use pdb_request::{LogCheck, LogClaim, Prove, Request, Solve};
-use std::alloc::{AllocError, Global};
+use std::alloc::{AllocError, AllocGlobal, Global};
+use std::process::Abort;
 use std::sync::Wait;
 use std::test::Fail;
 use std::thread::Threads;
@@ -91,8 +93,47 @@ pub(crate) fn told_of<'x, H: Threads + Wait>(
     )
 }
 
+/// Ends the test where the starts of these files tell another line. Those that come first count.
+pub(crate) fn expect_told<'x, H: AllocGlobal + Threads + Wait + Abort>(
+    rt: &H,
+    asked: &Request<'_>,
+    changed: &[Named<'x>],
+    others: &[Named<'x>],
+    line: &str,
+) -> Result<(), Fail> {
+    let told = told_of(rt, rt.alloc(), asked, changed, others)?;
+    same_text(rt, told.as_str(), line);
+    Ok(())
+}
+
+/// The same of each of these bytes under one name, and of its line.
+pub(crate) fn expect_each_told<'x, H: AllocGlobal + Threads + Wait + Abort>(
+    rt: &H,
+    asked: &Request<'_>,
+    name: &'x str,
+    cases: &[(&'x [u8], &str)],
+    others: &[Named<'x>],
+) -> Result<(), Fail> {
+    for (bytes, line) in cases {
+        expect_told(rt, asked, &[(name, *bytes)], others, line)?;
+    }
+    Ok(())
+}
+
 /// The sentence that is told ahead of such a line.
-pub(crate) fn sentence(alloc: Global, asked: &Request<'_>, line: &str) -> Result<String, Fail> {
+fn sentence(alloc: Global, asked: &Request<'_>, line: &str) -> Result<String, Fail> {
     let reason = Reason::of(asked, line.as_bytes(), None).ok_or("a reason")?;
     Ok(format!(in alloc; "{}", reason.ahead())?)
+}
+
+/// Ends the test where that sentence is another.
+pub(crate) fn expect_sentence<R: AllocGlobal + Abort>(
+    rt: &R,
+    asked: &Request<'_>,
+    line: &str,
+    wanted: &str,
+) -> Result<(), Fail> {
+    let told = sentence(rt.alloc(), asked, line)?;
+    same_text(rt, told.as_str(), wanted);
+    Ok(())
 }

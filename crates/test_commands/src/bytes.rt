@@ -10,3 +10,11 @@ pub fn sample_bytes(alloc: Global, count: usize) -> Result<Vec<u8>, AllocError> 
     }
     Ok(bytes)
 }
+
+/// Puts a piece so many times behind the bytes.
+pub fn put_often(bytes: &mut Vec<u8>, count: usize, piece: &[u8]) -> Result<(), AllocError> {
+    for _ in 0..count {
+        bytes.extend_from_slice(piece)?;
+    }
+    Ok(())
+}

@@ -2,13 +2,15 @@
 
 ghost use Rattle.std.specs.Prelude.{◌<◌, ◌≤◌};
 
+use crate::bytes::put_often;
+use crate::same::{same, same_bytes, same_for};
 use crate::sha256;
-use crate::telling::{io_over, joined, tells};
+use crate::telling::{expect_tells, io_over, joined};
 use byte_io::memory::MemShelf;
 use pdb_request::{LogCheck, LogClaim};
 use pdb_run::Status;
 use pdb_verdict::{Fault, Inputs, Verdict, run_log_check, verify};
-use std::alloc::{AllocError, Global};
+use std::alloc::{AllocError, AllocGlobal, Global};
 use std::process::Abort;
 use std::sync::Wait;
 use std::test::Fail;
@@ -51,10 +53,13 @@ fn lines_of(alloc: Global, case: &Case<'_>) -> Result<Vec<u8>, AllocError> {
     Ok(lines)
 }
 
-/// Whether a claim on a log for a board is answered so, with folded tables and with whole ones.
-fn bound_tells<H: Threads + Wait>(rt: &H, alloc: Global, case: &Case<'_>) -> Result<bool, Fail> {
-    let tables = vectors(alloc, case.tables)?;
-    let lines = lines_of(alloc, case)?;
+/// Ends the test where a claim on a log for a board is answered otherwise, with folded tables or with whole ones.
+fn expect_bound<H: AllocGlobal + Threads + Wait + Abort>(
+    rt: &H,
+    case: &Case<'_>,
+) -> Result<(), AllocError> {
+    let tables = vectors(rt.alloc(), case.tables)?;
+    let lines = lines_of(rt.alloc(), case)?;
     for fold in [false, true] {
         let inputs = Inputs::Bound {
             board: case.text,
@@ -63,11 +68,9 @@ fn bound_tells<H: Threads + Wait>(rt: &H, alloc: Global, case: &Case<'_>) -> Res
             tables: tables.as_slice(),
             fold,
         };
-        if !tells(rt, alloc, &inputs, lines.as_slice())? {
-            return Ok(false);
-        }
+        expect_tells(rt, &inputs, lines.as_slice());
     }
-    Ok(true)
+    Ok(())
 }
 
 /// Whether tables are folded, and how many workers check.
@@ -80,48 +83,64 @@ const WAYS: [(bool, u8); 6] = [
     (true, 7),
 ];
 
-#[test]
-fn good_logs_prove_their_bounds(rt: HostRuntime) -> Result<(), Fail> {
-    let alloc = rt.alloc();
-    let cases: [(&[u8], &[u8], &[u8], &[&[u8]], u8); 5] = [
-        (b"3 2 1 0", b"set 0\n", &LEAF, &[&TILES_123], 6),
-        (b"3 2 1 0", b"set 0\n", &BRANCHES, &[&TILES_12], 6),
-        (b"3 2 1 0", b"set 0\n", &CITATION, &[&TILES_12], 6),
-        // The sum is 4 + 2.
-        (b"3 2 1 0", b"set 0 1\n", &LEAF, &[&TILES_12, &TILE_3], 6),
-        (b"0 1 3 2", b"set 0\n", &UNSOLVABLE, &[&TILES_123], 255),
-    ];
-    for (board, sets, log, files, bound) in cases {
-        let tables = vectors(alloc, files)?;
-        for (fold, workers) in WAYS {
-            let inputs = Inputs::Bound {
-                board,
-                sets,
-                log,
-                tables: tables.as_slice(),
-                fold,
-            };
-            let answer = verify(&rt, alloc, &inputs, workers, &OpenGate);
-            assert!(rt;
-                answer == Ok(Verdict::Bound(bound)),
-                "{log:?} by {workers}, {fold}"
-            );
-        }
+/// A board, sets, a log and tables, and the bound that they prove.
+type Good<'a> = (&'a [u8], &'a [u8], &'a [u8], &'a [&'a [u8]], u8);
+
+/// Such claims.
+const GOOD: [Good<'_>; 5] = [
+    (b"3 2 1 0", b"set 0\n", &LEAF, &[&TILES_123], 6),
+    (b"3 2 1 0", b"set 0\n", &BRANCHES, &[&TILES_12], 6),
+    (b"3 2 1 0", b"set 0\n", &CITATION, &[&TILES_12], 6),
+    // The sum is 4 + 2.
+    (b"3 2 1 0", b"set 0 1\n", &LEAF, &[&TILES_12, &TILE_3], 6),
+    (b"0 1 3 2", b"set 0\n", &UNSOLVABLE, &[&TILES_123], 255),
+];
+
+/// Ends the test where a claim isn't proved in one of the ways.
+fn expect_proved<H: AllocGlobal + Threads + Wait + Abort>(
+    rt: &H,
+    (board, sets, log, files, bound): Good<'_>,
+) -> Result<(), AllocError> {
+    let tables = vectors(rt.alloc(), files)?;
+    for (fold, workers) in WAYS {
+        let inputs = Inputs::Bound {
+            board,
+            sets,
+            log,
+            tables: tables.as_slice(),
+            fold,
+        };
+        let answer = verify(rt, rt.alloc(), &inputs, workers, &OpenGate);
+        same_for(
+            rt,
+            &answer,
+            &Ok(Verdict::Bound(bound)),
+            &(log, workers, fold),
+        );
     }
     Ok(())
 }
 
-/// The claim that so many moves are the fewest for the board `3 2 1 0`, by `BRANCHES` over the tiles 1 and 2.
-fn optimum<H: Threads + Wait>(
+#[test]
+fn good_logs_prove_their_bounds(rt: HostRuntime) -> Result<(), Fail> {
+    for good in GOOD {
+        expect_proved(&rt, good)?;
+    }
+    Ok(())
+}
+
+/// Ends the test where the claim that so many moves are the fewest for the board `3 2 1 0`, by `BRANCHES` over the tiles 1 and 2, is
+/// answered otherwise.
+fn expect_optimum<H: AllocGlobal + Threads + Wait + Abort>(
     rt: &H,
-    alloc: Global,
     puzzle: &[u8],
     fold: bool,
     workers: u8,
-) -> Result<Result<Verdict, Fault>, Fail>
+    wanted: Result<Verdict, Fault>,
+) -> Result<(), AllocError>
     requires { (0 < workers) × (workers ≤ 64) }
 {
-    let tables = vectors(alloc, &[&TILES_12])?;
+    let tables = vectors(rt.alloc(), &[&TILES_12])?;
     let inputs = Inputs::Optimal {
         puzzle,
         sets: b"set 0\n",
@@ -129,20 +148,21 @@ fn optimum<H: Threads + Wait>(
         tables: tables.as_slice(),
         fold,
     };
-    Ok(verify(rt, alloc, &inputs, workers, &OpenGate))
+    let answer = verify(rt, rt.alloc(), &inputs, workers, &OpenGate);
+    same(rt, &answer, &wanted);
+    Ok(())
 }
 
 #[test]
 fn as_many_moves_as_the_bound_are_the_fewest(rt: HostRuntime) -> Result<(), Fail> {
     for (fold, workers) in WAYS {
-        let six = optimum(&rt, rt.alloc(), b"3 2 1 0 ; ULDRUL", fold, workers)?;
-        assert!(rt; six == Ok(Verdict::Optimal(6)));
-        let eight = optimum(&rt, rt.alloc(), b"3 2 1 0 ; ULDRULRL", fold, workers)?;
+        let six = Ok(Verdict::Optimal(6));
+        expect_optimum(&rt, b"3 2 1 0 ; ULDRUL", fold, workers, six)?;
         let more = Fault::O1 {
             solution: 8,
             bound: 6,
         };
-        assert!(rt; eight == Err(more));
+        expect_optimum(&rt, b"3 2 1 0 ; ULDRULRL", fold, workers, Err(more))?;
     }
     Ok(())
 }
@@ -174,7 +194,7 @@ fn a_board_is_refused_before_its_tables(rt: HostRuntime) -> Result<(), Fail> {
         digests: &[sha256::OF_CUT],
         line: b"refused B5 at number 3\n",
     };
-    assert!(rt; bound_tells(&rt, rt.alloc(), &case)?);
+    expect_bound(&rt, &case)?;
     Ok(())
 }
 
@@ -188,7 +208,7 @@ fn the_first_table_that_is_refused_is_named_by_its_number(rt: HostRuntime) -> Re
         digests: &[sha256::OF_CHANGED],
         line: b"refused T7 at entry 14 of table 0\n",
     };
-    assert!(rt; bound_tells(&rt, rt.alloc(), &case)?);
+    expect_bound(&rt, &case)?;
     let case = Case {
         text: b"3 2 1 0",
         sets: b"",
@@ -201,7 +221,7 @@ fn the_first_table_that_is_refused_is_named_by_its_number(rt: HostRuntime) -> Re
         ],
         line: b"refused T7 at entry 14 of table 2\n",
     };
-    assert!(rt; bound_tells(&rt, rt.alloc(), &case)?);
+    expect_bound(&rt, &case)?;
     Ok(())
 }
 
@@ -214,17 +234,16 @@ fn a_table_refused_for_its_length_is_named_by_its_number(rt: HostRuntime) -> Res
         digests: &[sha256::OF_12, sha256::OF_CUT],
         line: b"refused T6 of table 1\n",
     };
-    assert!(rt; bound_tells(&rt, rt.alloc(), &case)?);
+    expect_bound(&rt, &case)?;
     Ok(())
 }
 
 /// The tables of the tiles 1 and 2 and of tile 1 on side 2, with these sets, are refused so.
-fn expect_refused_sets<H: Threads + Wait + Abort>(
+fn expect_refused_sets<H: AllocGlobal + Threads + Wait + Abort>(
     rt: &H,
-    alloc: Global,
     sets: &[u8],
     line: &[u8],
-) -> Result<(), Fail> {
+) -> Result<(), AllocError> {
     let case = Case {
         text: b"3 2 1 0",
         sets,
@@ -232,16 +251,15 @@ fn expect_refused_sets<H: Threads + Wait + Abort>(
         digests: &[sha256::OF_12, sha256::OF_1],
         line,
     };
-    assert!(rt; bound_tells(rt, alloc, &case)?);
-    Ok(())
+    expect_bound(rt, &case)
 }
 
 #[test]
 fn sets_are_refused_behind_the_tables(rt: HostRuntime) -> Result<(), Fail> {
-    let alloc = rt.alloc();
-    expect_refused_sets(&rt, alloc, b"set 0\nset 1 0\n", b"refused S1 at line 1\n")?;
-    expect_refused_sets(&rt, alloc, b"set 0\nset 0 2\n", b"refused S2 at line 1\n")?;
-    expect_refused_sets(&rt, alloc, b"set 0 1\n", b"refused S3 at line 0\n")
+    expect_refused_sets(&rt, b"set 0\nset 1 0\n", b"refused S1 at line 1\n")?;
+    expect_refused_sets(&rt, b"set 0\nset 0 2\n", b"refused S2 at line 1\n")?;
+    expect_refused_sets(&rt, b"set 0 1\n", b"refused S3 at line 0\n")?;
+    Ok(())
 }
 
 #[test]
@@ -263,7 +281,7 @@ fn tables_of_two_sides_and_no_tables_are_refused(rt: HostRuntime) -> Result<(), 
         },
     ];
     for case in &cases {
-        assert!(rt; bound_tells(&rt, rt.alloc(), case)?);
+        expect_bound(&rt, case)?;
     }
     Ok(())
 }
@@ -277,50 +295,75 @@ fn a_log_is_refused_behind_the_sets(rt: HostRuntime) -> Result<(), Fail> {
         digests: &[sha256::OF_123],
         line: b"refused L1\n",
     };
-    assert!(rt; bound_tells(&rt, rt.alloc(), &case)?);
+    expect_bound(&rt, &case)?;
+    Ok(())
+}
+
+/// Ends the test where another line is told of sixteen tables of tile 1 and this one, behind their digests.
+fn expect_of_seventeen<H: AllocGlobal + Threads + Wait + Abort>(
+    rt: &H,
+    table: &[u8],
+    digest: &[u8],
+    line: &[u8],
+) -> Result<(), AllocError> {
+    let mut tables = vectors(rt.alloc(), &[TILE_1.as_slice(); 16])?;
+    tables.push(table.to_vec(rt.alloc())?)?;
+    let mut lines = Vec::new(rt.alloc());
+    put_often(&mut lines, 16, sha256::OF_1)?;
+    put_often(&mut lines, 1, digest)?;
+    put_often(&mut lines, 1, sha256::OF_ABC)?;
+    put_often(&mut lines, 1, line)?;
+    let inputs = Inputs::Bound {
+        board: b"3 2 1 0",
+        sets: b"set 0\n",
+        log: LOG,
+        tables: tables.as_slice(),
+        fold: true,
+    };
+    expect_tells(rt, &inputs, lines.as_slice());
     Ok(())
 }
 
 #[test]
 fn more_tables_than_16_are_checked_before_their_number(rt: HostRuntime) -> Result<(), Fail> {
-    let alloc = rt.alloc();
-    let mut tables = Vec::new(alloc);
-    let mut lines = Vec::new(alloc);
-    for _ in 0..16usize {
-        tables.push(TILE_1.to_vec(alloc)?)?;
-        lines.extend_from_slice(sha256::OF_1)?;
-    }
-    let others = [
-        (TILE_1.as_slice(), sha256::OF_1, b"refused S5\n".as_slice()),
-        (
-            &TILES_123[..43],
-            sha256::OF_CUT,
-            b"refused T6 of table 16\n",
-        ),
-    ];
-    for (table, digest, line) in others {
-        let mut all = tables.clone()?;
-        all.push(table.to_vec(alloc)?)?;
-        let mut told = lines.clone()?;
-        told.extend_from_slice(digest)?;
-        told.extend_from_slice(sha256::OF_ABC)?;
-        told.extend_from_slice(line)?;
-        let inputs = Inputs::Bound {
-            board: b"3 2 1 0",
-            sets: b"set 0\n",
-            log: LOG,
-            tables: all.as_slice(),
-            fold: true,
-        };
-        assert!(rt; tells(&rt, alloc, &inputs, told.as_slice())?);
-    }
+    expect_of_seventeen(&rt, &TILE_1, sha256::OF_1, b"refused S5\n")?;
+    expect_of_seventeen(
+        &rt,
+        &TILES_123[..43],
+        sha256::OF_CUT,
+        b"refused T6 of table 16\n",
+    )?;
+    Ok(())
+}
+
+/// Ends the test where another line is told of this claim on moves over a table that is cut.
+fn expect_optimal<H: AllocGlobal + Threads + Wait + Abort>(
+    rt: &H,
+    text: &[u8],
+    line: &[u8],
+) -> Result<(), AllocError> {
+    let case = Case {
+        text,
+        sets: b"",
+        tables: &[&TILES_123[..43]],
+        digests: &[sha256::OF_CUT],
+        line,
+    };
+    let tables = vectors(rt.alloc(), case.tables)?;
+    let lines = lines_of(rt.alloc(), &case)?;
+    let inputs = Inputs::Optimal {
+        puzzle: case.text,
+        sets: case.sets,
+        log: LOG,
+        tables: tables.as_slice(),
+        fold: true,
+    };
+    expect_tells(rt, &inputs, lines.as_slice());
     Ok(())
 }
 
 #[test]
 fn optima_are_refused_for_their_moves_before_their_tables(rt: HostRuntime) -> Result<(), Fail> {
-    let alloc = rt.alloc();
-    let cut = &TILES_123[..43];
     let cases: [(&[u8], &[u8]); 5] = [
         (b"3 2 1 0", b"refused P1\n"),
         (b"3 2 1 0 0;", b"refused B3 count 5\n"),
@@ -329,22 +372,7 @@ fn optima_are_refused_for_their_moves_before_their_tables(rt: HostRuntime) -> Re
         (b"3 2 1 0 ; ULDRUL", b"refused T6 of table 0\n"),
     ];
     for (text, line) in cases {
-        let case = Case {
-            text,
-            sets: b"",
-            tables: &[cut],
-            digests: &[sha256::OF_CUT],
-            line,
-        };
-        let tables = vectors(alloc, case.tables)?;
-        let inputs = Inputs::Optimal {
-            puzzle: case.text,
-            sets: case.sets,
-            log: LOG,
-            tables: tables.as_slice(),
-            fold: true,
-        };
-        assert!(rt; tells(&rt, alloc, &inputs, lines_of(alloc, &case)?.as_slice())?);
+        expect_optimal(&rt, text, line)?;
     }
     Ok(())
 }
@@ -381,30 +409,42 @@ fn shelf(alloc: Global) -> Result<MemShelf, AllocError> {
     )
 }
 
+/// How such a check ends over a shelf, by two workers.
+fn ended<H: Threads + Wait + Sync>(
+    rt: &H,
+    alloc: Global,
+    check: &LogCheck<&'static str>,
+    shelf: &mut MemShelf,
+    out: &mut Vec<u8>,
+) -> Status {
+    let workers = Workers::new(rt, alloc, 2, &OpenGate);
+    let mut reader = b"".as_slice();
+    run_log_check(check, &workers, &mut io_over(shelf, &mut reader, out))
+}
+
+/// What is told of both claims.
+const TOLD: [&[u8]; 8] = [
+    sha256::OF_123,
+    sha256::OF_123,
+    sha256::OF_ABC,
+    b"refused L1\n",
+    sha256::OF_123,
+    sha256::OF_123,
+    sha256::OF_ABC,
+    b"refused P1\n",
+];
+
 #[test]
 fn claims_are_told_behind_the_digests_of_their_tables(rt: HostRuntime) -> Result<(), Fail> {
     let alloc = rt.alloc();
     let mut shelf = shelf(alloc)?;
-    let workers = Workers::new(&rt, alloc, 2, &OpenGate);
     let mut out = Vec::new(alloc);
-    let mut reader = b"".as_slice();
-    let mut io = io_over(&mut shelf, &mut reader, &mut out);
-    let check = check_of(alloc, LogClaim::Bound, "sets", "log", "table")?;
-    let bound = run_log_check(&check, &workers, &mut io);
-    let check = check_of(alloc, LogClaim::Optimum, "sets", "log", "table")?;
-    let optimal = run_log_check(&check, &workers, &mut io);
-    assert!(rt; bound == Status::Refused && optimal == Status::Refused);
-    let told = [
-        sha256::OF_123,
-        sha256::OF_123,
-        sha256::OF_ABC,
-        b"refused L1\n",
-        sha256::OF_123,
-        sha256::OF_123,
-        sha256::OF_ABC,
-        b"refused P1\n",
-    ];
-    assert!(rt; out == joined(alloc, &told)?);
+    for claim in [LogClaim::Bound, LogClaim::Optimum] {
+        let check = check_of(alloc, claim, "sets", "log", "table")?;
+        let status = ended(&rt, alloc, &check, &mut shelf, &mut out);
+        assert!(rt; status == Status::Refused);
+    }
+    same_bytes(&rt, out.as_slice(), joined(alloc, &TOLD)?.as_slice());
     Ok(())
 }
 
@@ -412,16 +452,16 @@ fn claims_are_told_behind_the_digests_of_their_tables(rt: HostRuntime) -> Result
 fn claims_are_read_in_the_order_of_their_names(rt: HostRuntime) -> Result<(), Fail> {
     let alloc = rt.alloc();
     let mut shelf = shelf(alloc)?;
-    let workers = Workers::new(&rt, alloc, 2, &OpenGate);
-    let no_sets = check_of(alloc, LogClaim::Bound, "none", "no log", "table")?;
-    let no_table = check_of(alloc, LogClaim::Bound, "sets", "log", "no table")?;
     let mut out = Vec::new(alloc);
-    let mut reader = b"".as_slice();
-    let mut io = io_over(&mut shelf, &mut reader, &mut out);
-    for check in [&no_sets, &no_table] {
-        let status = run_log_check(check, &workers, &mut io);
+    for (sets, log, table) in [("none", "no log", "table"), ("sets", "log", "no table")] {
+        let check = check_of(alloc, LogClaim::Bound, sets, log, table)?;
+        let status = ended(&rt, alloc, &check, &mut shelf, &mut out);
         assert!(rt; status == Status::Fault);
     }
-    assert!(rt; out.as_slice() == b"fault read none\nfault read no table\n".as_slice());
+    same_bytes(
+        &rt,
+        out.as_slice(),
+        b"fault read none\nfault read no table\n",
+    );
     Ok(())
 }

@@ -1,8 +1,16 @@
 //! Files that aren't seen before the run begins, and calls of the system.
 
-use crate::asked::{Named, bound, told, told_of};
+ghost use Rattle.std.specs.Prelude.{◌<◌};
+
+use crate::asked::{Named, bound, expect_told, told};
+use crate::bytes::put_often;
+use crate::same::same_text;
 use pdb_request::{Replay, Request, TableCheck};
+use std::alloc::AllocGlobal;
+use std::process::Abort;
+use std::sync::Wait;
 use std::test::Fail;
+use std::thread::Threads;
 use test_samples::files::{TILE_3, TILES_12};
 use test_samples::logs::LEAF;
 use test_streams::{Call, SampleFiles};
@@ -16,73 +24,102 @@ const FILES: [Named<'_>; 5] = [
     ("t1", &TILE_3),
 ];
 
+/// The line that is told of them.
+const LINE: &str = "refused S2 at line 1";
+
+/// Ends the test where another line is told of the files without this one.
+fn expect_told_without<H: AllocGlobal + Threads + Wait + Abort>(
+    rt: &H,
+    asked: &Request<'_>,
+    without: usize,
+) -> Result<(), Fail>
+    requires { without < 5 }
+{
+    let mut seen = FILES.to_vec(rt.alloc())?;
+    seen.remove(without);
+    let line = if without == 1 { "" } else { LINE };
+    expect_told(rt, asked, &[], seen.as_slice(), line)
+}
+
 #[test]
 fn of_files_that_are_not_seen_nothing_is_told(rt: HostRuntime) -> Result<(), Fail> {
     let asked = bound(rt.alloc(), &["t0", "t1"])?;
-    let told_of_all = told_of(&rt, rt.alloc(), &asked, &[], &FILES)?;
-    assert_eq!(rt; told_of_all.as_str(), "refused S2 at line 1");
+    expect_told(&rt, &asked, &[], &FILES, LINE)?;
     for without in 0..FILES.len() {
-        let mut seen = FILES.to_vec(rt.alloc())?;
-        seen.remove(without);
-        let told = told_of(&rt, rt.alloc(), &asked, &[], seen.as_slice())?;
-        let wanted = if without == 1 {
-            ""
-        } else {
-            "refused S2 at line 1"
-        };
-        assert_eq!(rt; told.as_str(), wanted);
+        expect_told_without(&rt, &asked, without)?;
     }
     Ok(())
+}
+
+/// Ends the test where another line is told of a set text of so many lines.
+fn expect_told_of_lines<H: AllocGlobal + Threads + Wait + Abort>(
+    rt: &H,
+    asked: &Request<'_>,
+    count: usize,
+    line: &str,
+) -> Result<(), Fail> {
+    let mut sets = Vec::new(rt.alloc());
+    put_often(&mut sets, count, b"set 0\n")?;
+    expect_told(rt, asked, &[("sets", sets.as_slice())], &FILES, line)
 }
 
 #[test]
 fn of_a_long_set_text_nothing_is_told(rt: HostRuntime) -> Result<(), Fail> {
     let asked = bound(rt.alloc(), &["t0", "t1"])?;
-    for (count, line) in [(682, "refused S5"), (683, "")] {
-        let mut sets = Vec::new(rt.alloc());
-        for _ in 0..count {
-            sets.extend_from_slice(b"set 0\n")?;
-        }
-        let told = told_of(
-            &rt,
-            rt.alloc(),
-            &asked,
-            &[("sets", sets.as_slice())],
-            &FILES,
-        )?;
-        assert_eq!(rt; told.as_str(), line);
-    }
-    Ok(())
+    expect_told_of_lines(&rt, &asked, 682, "refused S5")?;
+    expect_told_of_lines(&rt, &asked, 683, "")
+}
+
+/// The calls of the system where none fails.
+fn calls_of<H: AllocGlobal + Threads + Wait>(
+    rt: &H,
+    asked: &Request<'_>,
+) -> Result<Vec<Call>, Fail> {
+    let files = SampleFiles::new(rt.alloc(), &FILES)?;
+    told(rt, rt.alloc(), asked, &files)?;
+    Ok(files.calls()?)
+}
+
+/// Whether a call only reads.
+fn is_reading(call: &Call) -> bool {
+    matches!(call, Call::Look | Call::Open | Call::Read)
 }
 
 #[test]
 fn files_are_read_alone(rt: HostRuntime) -> Result<(), Fail> {
     let asked = bound(rt.alloc(), &["t0", "t1"])?;
-    let files = SampleFiles::new(rt.alloc(), &FILES)?;
-    told(&rt, rt.alloc(), &asked, &files)?;
-    let calls = files.calls()?;
+    let calls = calls_of(&rt, &asked)?;
     assert!(rt; calls.len() > 15);
     for call in &calls {
-        assert!(rt; matches!(call, Call::Look | Call::Open | Call::Read));
+        assert!(rt; is_reading(call));
     }
     Ok(())
+}
+
+/// Whether nothing is told where this call fails. What is told is the usual line.
+fn is_silent<H: AllocGlobal + Threads + Wait + Abort>(
+    rt: &H,
+    asked: &Request<'_>,
+    failing: u64,
+) -> Result<bool, Fail> {
+    let files = SampleFiles::new(rt.alloc(), &FILES)?;
+    files.fail(failing, failing.saturating_add(1));
+    let told = told(rt, rt.alloc(), asked, &files)?;
+    if told.is_empty() {
+        return Ok(true);
+    }
+    same_text(rt, told.as_str(), LINE);
+    Ok(false)
 }
 
 #[test]
 fn where_a_call_fails_less_is_told(rt: HostRuntime) -> Result<(), Fail> {
     let asked = bound(rt.alloc(), &["t0", "t1"])?;
-    let files = SampleFiles::new(rt.alloc(), &FILES)?;
-    told(&rt, rt.alloc(), &asked, &files)?;
-    let calls = files.calls()?.len() as u64;
+    let calls = calls_of(&rt, &asked)?.len() as u64;
     let mut without = 0_u64;
     for failing in 0..calls {
-        let files = SampleFiles::new(rt.alloc(), &FILES)?;
-        files.fail(failing, failing.saturating_add(1));
-        let told = told(&rt, rt.alloc(), &asked, &files)?;
-        if told.is_empty() {
+        if is_silent(&rt, &asked, failing)? {
             without = without.saturating_add(1);
-        } else {
-            assert_eq!(rt; told.as_str(), "refused S2 at line 1");
         }
     }
     assert!(rt; 0 < without && without < 10);
@@ -98,9 +135,6 @@ fn other_commands_are_told_nothing(rt: HostRuntime) -> Result<(), Fail> {
         file: "board",
         workers: 1,
     });
-    for asked in [replay, table] {
-        let told = told_of(&rt, rt.alloc(), &asked, &[], &FILES)?;
-        assert_eq!(rt; told.as_str(), "");
-    }
-    Ok(())
+    expect_told(&rt, &replay, &[], &FILES, "")?;
+    expect_told(&rt, &table, &[], &FILES, "")
 }

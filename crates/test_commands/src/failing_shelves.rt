@@ -1,5 +1,6 @@
 //! Runs of each command over a shelf that fails.
 
+use crate::same::{holds_for, same, same_for};
 use crate::telling::io_over;
 use byte_io::memory::MemShelf;
 use pdb_keep::{run_make_table, run_solve};
@@ -7,7 +8,7 @@ use pdb_prove::run_prove;
 use pdb_request::{LogCheck, LogClaim, MakeTable, Prove, Replay, Solve, TableCheck};
 use pdb_run::{Io, Status};
 use pdb_verdict::{run_log_check, run_replay, run_table};
-use std::alloc::{AllocError, Global};
+use std::alloc::{AllocError, AllocGlobal, Global};
 use std::process::Abort;
 use std::sync::Wait;
 use std::test::Fail;
@@ -149,18 +150,42 @@ fn expect_fault<H: Threads + Wait + Sync + Abort>(
         ShelfFault::Memory => Status::NoMemory,
         _ => Status::Fault,
     };
-    assert_eq!(rt; status, want);
-    assert!(rt; out.as_slice() == line, "{why:?} at call {call}");
-    assert_eq!(rt; shelf.calls(), call.saturating_add(1));
+    same(rt, &status, &want);
+    same_for(rt, &out.as_slice(), &line, &(why, "at call", call));
+    same(rt, &shelf.calls(), &call.saturating_add(1));
+    expect_files(rt, shelf.files());
+    Ok(())
+}
+
+/// Ends the test where a file has other bytes than it had.
+fn expect_files<R: Abort>(rt: &R, shelf: &MemShelf) {
     for (name, bytes) in FILES {
-        assert!(rt; shelf.files().get(name) == Some(bytes), "{name}");
+        holds_for(rt, shelf.get(name) == Some(bytes), &name);
+    }
+}
+
+/// A command's run with each fault of a call that reads an input of this name ends there.
+fn expect_faults<H: AllocGlobal + Threads + Wait + Sync + Abort>(
+    rt: &H,
+    command: Command,
+    call: u64,
+    name: &str,
+) -> Result<(), Fail> {
+    let alloc = rt.alloc();
+    let unread = format!(in alloc; "fault read {name}\n")?;
+    let too_long = format!(in alloc; "fault size {name}\n")?;
+    for (why, line) in [
+        (ShelfFault::Device, unread.as_bytes()),
+        (ShelfFault::Size, too_long.as_bytes()),
+        (ShelfFault::Memory, b"no memory\n"),
+    ] {
+        expect_fault(rt, alloc, command, &Failure { call, why, line })?;
     }
     Ok(())
 }
 
 #[test]
 fn an_input_that_can_not_be_read_is_told_alone(rt: HostRuntime) -> Result<(), Fail> {
-    let alloc = rt.alloc();
     let cases: [(Command, &[&str]); 6] = [
         (Command::Replay, &["puzzle"]),
         (Command::Table, &["f12"]),
@@ -170,16 +195,8 @@ fn an_input_that_can_not_be_read_is_told_alone(rt: HostRuntime) -> Result<(), Fa
         (Command::Prove, &["puzzle", "sets", "f12", "f3"]),
     ];
     for (command, names) in cases {
-        for (call, name) in (0..).zip(names) {
-            let unread = format!(in alloc; "fault read {name}\n")?;
-            let too_long = format!(in alloc; "fault size {name}\n")?;
-            for (why, line) in [
-                (ShelfFault::Device, unread.as_bytes()),
-                (ShelfFault::Size, too_long.as_bytes()),
-                (ShelfFault::Memory, b"no memory\n"),
-            ] {
-                expect_fault(&rt, alloc, command, &Failure { call, why, line })?;
-            }
+        for (call, name) in names.iter().enumerate() {
+            expect_faults(&rt, command, call as u64, name)?;
         }
     }
     Ok(())

@@ -1,10 +1,12 @@
 //! A shelf over a system that may say a wrong size of its file, and whose calls may fail.
 
-use crate::calls::were_calls;
+use crate::calls::expect_calls;
+use crate::same::{holds_for, same_bytes};
 use byte_io::disk::DiskShelf;
 use byte_io::shelf::Shelf;
 use byte_io::streams::ReadFault;
-use std::alloc::{AllocError, Global};
+use std::alloc::{AllocError, AllocGlobal, Global};
+use std::process::Abort;
 use std::test::Fail;
 use test_streams::{Call, SampleFiles};
 
@@ -36,26 +38,30 @@ fn load(alloc: Global, files: &SampleFiles, limit: u64) -> (Result<Vec<u8>, Read
     (read, shelf.failed())
 }
 
+/// Ends the test where the text isn't read whole from a system.
+fn expect_whole<R: AllocGlobal + Abort>(rt: &R, files: &SampleFiles) -> Result<(), ReadFault> {
+    let (read, failed) = load(rt.alloc(), files, 100);
+    same_bytes(rt, read?.as_slice(), TEXT);
+    assert!(rt; !failed);
+    Ok(())
+}
+
 #[test]
 fn a_file_is_read_whole_whatever_size_is_said(rt: HostRuntime) -> Result<(), Fail> {
-    let alloc = rt.alloc();
     for size in [0, 1, 16, 17, 18, 100] {
-        let files = sample(alloc)?;
+        let files = sample(rt.alloc())?;
         files.say(size);
-        let (read, failed) = load(alloc, &files, 100);
-        assert!(rt; read?.as_slice() == TEXT && !failed);
+        expect_whole(&rt, &files)?;
     }
     Ok(())
 }
 
 #[test]
 fn a_file_is_read_whole_where_nothing_is_said(rt: HostRuntime) -> Result<(), Fail> {
-    let alloc = rt.alloc();
-    let files = sample(alloc)?;
+    let files = sample(rt.alloc())?;
     files.fail(1, 2);
-    let (read, failed) = load(alloc, &files, 100);
-    assert!(rt; read?.as_slice() == TEXT && !failed);
-    assert!(rt; were_calls(&files, CALLS)?);
+    expect_whole(&rt, &files)?;
+    expect_calls(&rt, &files, CALLS)?;
     Ok(())
 }
 
@@ -66,18 +72,24 @@ fn a_file_said_to_be_over_its_limit_is_not_read(rt: HostRuntime) -> Result<(), F
     files.say(18);
     let (read, failed) = load(alloc, &files, 17);
     assert!(rt; matches!(read, Err(ReadFault::F2)) && !failed);
-    assert!(rt; were_calls(&files, &CALLS[..2])?);
+    expect_calls(&rt, &files, &CALLS[..2])?;
+    Ok(())
+}
+
+/// Ends the test where a call that fails is no failure of the shelf.
+fn expect_failure<R: AllocGlobal + Abort>(rt: &R, call: u64) -> Result<(), AllocError> {
+    let files = sample(rt.alloc())?;
+    files.fail(call, u64::MAX);
+    let (read, failed) = load(rt.alloc(), &files, 17);
+    let fails = matches!(read, Err(ReadFault::F1)) && failed;
+    holds_for(rt, fails, &("call", call));
     Ok(())
 }
 
 #[test]
 fn a_read_that_fails_is_a_failure_of_the_shelf(rt: HostRuntime) -> Result<(), Fail> {
-    let alloc = rt.alloc();
     for call in 2..CALLS.len() as u64 {
-        let files = sample(alloc)?;
-        files.fail(call, u64::MAX);
-        let (read, failed) = load(alloc, &files, 17);
-        assert!(rt; matches!(read, Err(ReadFault::F1)) && failed, "call {call}");
+        expect_failure(&rt, call)?;
     }
     Ok(())
 }

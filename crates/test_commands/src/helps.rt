@@ -1,6 +1,7 @@
 //! The helps, whole, and the version.
 
 use crate::readings::{expect_help, expect_version};
+use crate::same::same_text;
 use pdb_words::version_line;
 use std::test::Fail;
 
@@ -274,6 +275,6 @@ fn the_version_is_told(rt: HostRuntime) -> Result<(), Fail> {
     for words in cases {
         expect_version(rt.alloc(), words)?;
     }
-    assert_eq!(rt; version_line(), "pdb_cli 0.2.0\n");
+    same_text(&rt, version_line(), "pdb_cli 0.2.0\n");
     expect_help(rt.alloc(), &["--help", "-V"], HELP)
 }

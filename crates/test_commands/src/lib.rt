@@ -38,11 +38,15 @@ mod proofs;
 #[cfg(test)]
 mod readings;
 #[cfg(test)]
+mod real_files;
+#[cfg(test)]
 mod reasons;
 #[cfg(test)]
 mod requests;
 #[cfg(test)]
 mod runs;
+#[cfg(test)]
+mod same;
 #[cfg(test)]
 mod searches;
 #[cfg(test)]

@@ -1,8 +1,12 @@
 //! Logs and boards, of which a line is told before the run begins.
 
-use crate::asked::{Named, bound, log_check, search, sentence, told_of};
+use crate::asked::{Named, bound, expect_sentence, expect_told, log_check, search};
 use pdb_request::{LogClaim, Request};
+use std::alloc::AllocGlobal;
+use std::process::Abort;
+use std::sync::Wait;
 use std::test::Fail;
+use std::thread::Threads;
 use test_samples::files::TILES_12;
 use test_samples::logs::{LEAF, UNSOLVABLE};
 
@@ -41,10 +45,21 @@ fn a_log_that_is_none_or_of_another_board_is_told(rt: HostRuntime) -> Result<(),
         (&UNSOLVABLE, "refused L5"),
     ];
     for (log, line) in cases {
-        let told = told_of(&rt, rt.alloc(), &asked, &[("log", log)], &FILES)?;
-        assert_eq!(rt; told.as_str(), line);
+        expect_told(&rt, &asked, &[("log", log)], &FILES, line)?;
     }
     Ok(())
+}
+
+/// Ends the test where another line is told of a log with 5000 zeros behind it.
+fn expect_told_of_large<H: AllocGlobal + Threads + Wait + Abort>(
+    rt: &H,
+    asked: &Request<'_>,
+    log: &[u8],
+    line: &str,
+) -> Result<(), Fail> {
+    let mut file = log.to_vec(rt.alloc())?;
+    file.extend_from_slice(&[0; 5_000])?;
+    expect_told(rt, asked, &[("log", file.as_slice())], &FILES, line)
 }
 
 #[test]
@@ -56,45 +71,47 @@ fn of_a_large_log_the_header_is_seen(rt: HostRuntime) -> Result<(), Fail> {
         (&leaf_with(5, 3), "refused L4"),
         (&leaf_with(10, 2), ""),
     ];
-    let zeros = vec![in rt.alloc(); 0_u8; 5_000]?;
     for (log, line) in cases {
-        let mut file = log.to_vec(rt.alloc())?;
-        file.extend_from_slice(zeros.as_slice())?;
-        let told = told_of(&rt, rt.alloc(), &asked, &[("log", file.as_slice())], &FILES)?;
-        assert_eq!(rt; told.as_str(), line);
+        expect_told_of_large(&rt, &asked, log, line)?;
     }
     Ok(())
 }
 
+/// Ends the test where `refused L4` isn't told of a board of side 3, before these files.
+fn expect_another_side<H: AllocGlobal + Threads + Wait + Abort>(
+    rt: &H,
+    asked: &Request<'_>,
+    others: &[Named<'_>],
+) -> Result<(), Fail> {
+    expect_told(rt, asked, &[("board", OF_SIDE_3)], others, "refused L4")
+}
+
 #[test]
 fn a_board_of_another_side_is_told(rt: HostRuntime) -> Result<(), Fail> {
-    let changed: [Named<'_>; 1] = [("board", OF_SIDE_3)];
-    for asked in [bound(rt.alloc(), &["t0"])?, search(rt.alloc())?] {
-        let told = told_of(&rt, rt.alloc(), &asked, &changed, &FILES)?;
-        assert_eq!(rt; told.as_str(), "refused L4");
-    }
+    expect_another_side(&rt, &search(rt.alloc())?, &FILES)?;
     let asked = bound(rt.alloc(), &["t0"])?;
-    let told = told_of(&rt, rt.alloc(), &asked, &changed, &[FILES[1], FILES[3]])?;
-    assert_eq!(rt; told.as_str(), "refused L4");
-    Ok(())
+    expect_another_side(&rt, &asked, &FILES)?;
+    expect_another_side(&rt, &asked, &[FILES[1], FILES[3]])
 }
 
 #[test]
 fn a_board_without_a_solution_is_told_of_a_search(rt: HostRuntime) -> Result<(), Fail> {
     let changed: [Named<'_>; 2] = [("board", b"0 1 3 2\n"), ("log", &UNSOLVABLE)];
-    let told = told_of(&rt, rt.alloc(), &search(rt.alloc())?, &changed, &FILES)?;
-    assert_eq!(rt; told.as_str(), "refused K2");
-    let told = told_of(
-        &rt,
-        rt.alloc(),
-        &bound(rt.alloc(), &["t0"])?,
-        &changed,
-        &FILES,
-    )?;
-    assert_eq!(rt; told.as_str(), "");
-    let told = told_of(&rt, rt.alloc(), &search(rt.alloc())?, &[], &FILES)?;
-    assert_eq!(rt; told.as_str(), "");
-    Ok(())
+    expect_told(&rt, &bound(rt.alloc(), &["t0"])?, &changed, &FILES, "")?;
+    let search = search(rt.alloc())?;
+    expect_told(&rt, &search, &changed, &FILES, "refused K2")?;
+    expect_told(&rt, &search, &[], &FILES, "")
+}
+
+/// Ends the test where another line is told of a board and a wrong set text.
+fn expect_told_of_board<H: AllocGlobal + Threads + Wait + Abort>(
+    rt: &H,
+    asked: &Request<'_>,
+    board: &[u8],
+    line: &str,
+) -> Result<(), Fail> {
+    let changed = [("board", board), ("sets", b"set".as_slice())];
+    expect_told(rt, asked, &changed, &FILES, line)
 }
 
 #[test]
@@ -113,25 +130,23 @@ fn nothing_is_told_where_the_run_refuses_the_board_itself(rt: HostRuntime) -> Re
         (&optimum, b"3 2 1 0", ""),
     ];
     for (asked, board, line) in cases {
-        let changed = [("board", board), ("sets", b"set".as_slice())];
-        let told = told_of(&rt, rt.alloc(), asked, &changed, &FILES)?;
-        assert_eq!(rt; told.as_str(), line);
+        expect_told_of_board(&rt, asked, board, line)?;
     }
     Ok(())
 }
 
 #[test]
 fn their_sentences_name_the_log_or_the_board(rt: HostRuntime) -> Result<(), Fail> {
-    let asked = bound(rt.alloc(), &["t0"])?;
-    let told = sentence(rt.alloc(), &asked, "refused L4")?;
-    assert_eq!(rt;
-        told.as_str(),
-        "pdb_cli: this run can't end in a yes: log: board, tables and log aren't all of one side"
-    );
-    let told = sentence(rt.alloc(), &search(rt.alloc())?, "refused K2")?;
-    assert_eq!(rt;
-        told.as_str(),
-        "pdb_cli: this run can't end in a yes: board: the board has no solution, or none of fewer than 255 moves"
-    );
-    Ok(())
+    expect_sentence(
+        &rt,
+        &bound(rt.alloc(), &["t0"])?,
+        "refused L4",
+        "pdb_cli: this run can't end in a yes: log: board, tables and log aren't all of one side",
+    )?;
+    expect_sentence(
+        &rt,
+        &search(rt.alloc())?,
+        "refused K2",
+        "pdb_cli: this run can't end in a yes: board: the board has no solution, or none of fewer than 255 moves",
+    )
 }

@@ -1,8 +1,10 @@
 //! Mistakes: one text whole, and a part of each other one.
 
 use crate::readings::mistake_of;
+use crate::same::same_text;
 use pdb_words::unreadable_word;
-use std::alloc::Global;
+use std::alloc::{AllocError, AllocGlobal, Global};
+use std::process::Abort;
 use std::test::Fail;
 
 /// The end of a mistake's text, with the usage of the program.
@@ -351,14 +353,20 @@ fn words_of_parts(rt: HostRuntime) -> Result<(), Fail> {
     )
 }
 
+/// Ends the test where another text is told of a word that is no text.
+fn expect_unreadable<R: AllocGlobal + Abort>(rt: &R, place: usize) -> Result<(), AllocError> {
+    let wanted = format!(in rt.alloc(); "error: word {place} is no UTF-8 text{USAGE}")?;
+    same_text(rt, unreadable_word(place).as_str(), wanted.as_str());
+    Ok(())
+}
+
 #[test]
 fn a_mistake_shows_the_usage(rt: HostRuntime) -> Result<(), Fail> {
-    let alloc = rt.alloc();
-    let whole = format!(in alloc; "error: unrecognized subcommand 'shuffle'{USAGE}")?;
-    assert_eq!(rt; mistake_of(alloc, &["shuffle"])?.as_str(), whole.as_str());
+    let whole = format!(in rt.alloc(); "error: unrecognized subcommand 'shuffle'{USAGE}")?;
+    let told = mistake_of(rt.alloc(), &["shuffle"])?;
+    same_text(&rt, told.as_str(), whole.as_str());
     for place in [0, 3, 10, 4_294_967_296, usize::MAX] {
-        let unreadable = format!(in alloc; "error: word {place} is no UTF-8 text{USAGE}")?;
-        assert_eq!(rt; unreadable_word(place).as_str(), unreadable.as_str());
+        expect_unreadable(&rt, place)?;
     }
     Ok(())
 }

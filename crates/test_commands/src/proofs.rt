@@ -1,11 +1,16 @@
 //! Claims, what is told of each of them, and how the run ends.
 
+use crate::same::{same, same_bytes};
 use crate::telling::io_over;
 use byte_io::memory::MemShelf;
 use pdb_prove::run_prove;
 use pdb_request::Prove;
 use pdb_run::Status;
+use std::alloc::AllocGlobal;
+use std::process::Abort;
+use std::sync::Wait;
 use std::test::Fail;
+use std::thread::Threads;
 use test_samples::files::TILES_12;
 use work_run::{OpenGate, Workers};
 
@@ -32,33 +37,41 @@ part 62/63 of bound 0 of 0 1 2 3
 bound 6 of 3 2 1 0
 ";
 
+/// Ends the test where a run over these claims, with folded tables or with whole ones, tells something else.
+fn expect_told<H: AllocGlobal + Threads + Wait + Sync + Abort>(
+    rt: &H,
+    text: &[u8],
+    fold: bool,
+    told: &[u8],
+) -> Result<(), Fail> {
+    let alloc = rt.alloc();
+    let mut shelf = MemShelf::of(
+        alloc,
+        &[("sets", b"set 0\n".as_slice()), ("f12", &TILES_12)],
+    )?;
+    let mut reader = text;
+    let mut out = Vec::new(alloc);
+    let claims = Prove {
+        claims: None,
+        sets: "sets",
+        tables: vec![in alloc; "f12"]?,
+        workers: 2,
+        fold,
+        budget: Some(1_000),
+    };
+    let workers = Workers::new(rt, alloc, 2, &OpenGate);
+    let mut io = io_over(&mut shelf, &mut reader, &mut out);
+    let status = run_prove(&claims, &workers, &mut io);
+    same(rt, &status, &Status::Refused);
+    same_bytes(rt, out.as_slice(), told);
+    Ok(())
+}
+
 #[test]
 fn each_claim_has_its_line(rt: HostRuntime) -> Result<(), Fail> {
-    let alloc = rt.alloc();
-    let files: [(&str, &[u8]); 2] = [("sets", b"set 0\n"), ("f12", &TILES_12)];
-    let cases = [
-        (CLAIMS, false, TOLD),
-        (CLAIMS, true, TOLD),
-        (OF_PARTS, false, PARTS_TOLD),
-        (OF_PARTS, true, PARTS_TOLD),
-    ];
-    for (text, fold, told) in cases {
-        let mut shelf = MemShelf::of(alloc, &files)?;
-        let mut reader = text;
-        let mut out = Vec::new(alloc);
-        let mut io = io_over(&mut shelf, &mut reader, &mut out);
-        let workers = Workers::new(&rt, alloc, 2, &OpenGate);
-        let claims = Prove {
-            claims: None,
-            sets: "sets",
-            tables: vec![in alloc; "f12"]?,
-            workers: 2,
-            fold,
-            budget: Some(1_000),
-        };
-        let status = run_prove(&claims, &workers, &mut io);
-        assert_eq!(rt; status, Status::Refused);
-        assert!(rt; out.as_slice() == told);
+    for fold in [false, true] {
+        expect_told(&rt, CLAIMS, fold, TOLD)?;
+        expect_told(&rt, OF_PARTS, fold, PARTS_TOLD)?;
     }
     Ok(())
 }

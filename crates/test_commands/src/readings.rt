@@ -15,7 +15,7 @@ fn owned(alloc: Global, words: &[&str]) -> Result<Vec<String>, AllocError> {
 }
 
 /// The words of a command: its name, and those behind it.
-pub fn behind<'a>(
+fn behind<'a>(
     alloc: Global,
     command: &'a str,
     words: &[&'a str],
@@ -36,6 +36,17 @@ pub fn expect_request(alloc: Global, words: &[&str], wanted: &Request<'_>) -> Re
         return Ok(());
     }
     Err(Fail::new(format_args!("{words:?} read as {read:?}")))
+}
+
+/// The same of a command's name and the words behind it.
+pub fn expect_behind(
+    alloc: Global,
+    command: &str,
+    words: &[&str],
+    wanted: &Request<'_>,
+) -> Result<(), Fail> {
+    let words = behind(alloc, command, words)?;
+    expect_request(alloc, words.as_slice(), wanted)
 }
 
 /// The words ask for help, which is this text; or the test fails, and shows what was read.

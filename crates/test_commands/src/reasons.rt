@@ -1,12 +1,14 @@
 //! Sentences that say why a run ended without a yes, and the output that keeps its last line.
 
+use crate::same::{same, same_bytes, same_for, same_text};
 use byte_io::memory::MemShelf;
 use byte_io::streams::put_bytes;
 use pdb_reason::{Beginning, Heard, Reason};
 use pdb_request::{
     JoinParts, LogCheck, LogClaim, MakeTable, Prove, Replay, Request, Solve, TableCheck,
 };
-use std::alloc::{AllocError, Global};
+use std::alloc::{AllocError, AllocGlobal, Global};
+use std::io::Write;
 use std::process::Abort;
 use std::test::Fail;
 
@@ -55,22 +57,28 @@ fn prove<'a>(alloc: Global) -> Result<Request<'a>, AllocError> {
     }))
 }
 
-/// Each line has its sentence, with what the file begins with that it names.
-fn each_has_its_sentence<'x>(
-    rt: &impl Abort,
+/// The sentence of a run that ended with this line, with what the file begins with that it names; or an empty text.
+fn said_of(
     alloc: Global,
-    asked: &Request<'x>,
-    cases: &[(&'x str, Beginning, &'x str)],
+    asked: &Request<'_>,
+    line: &str,
+    beginning: Beginning,
+) -> Result<String, AllocError> {
+    match Reason::of(asked, line.as_bytes(), None) {
+        Some(reason) => format!(in alloc; "{}", reason.beginning(beginning)),
+        None => Ok(String::new(alloc)),
+    }
+}
+
+/// Each line has its sentence, with what the file begins with that it names.
+fn each_has_its_sentence<R: AllocGlobal + Abort>(
+    rt: &R,
+    asked: &Request<'_>,
+    cases: &[(&str, Beginning, &str)],
 ) -> Result<(), Fail> {
     for (line, beginning, wanted) in cases {
-        let told = match Reason::of(asked, line.as_bytes(), None) {
-            Some(reason) => {
-                let reason = reason.beginning(*beginning);
-                format!(in alloc; "{reason}")?
-            }
-            None => String::new(alloc),
-        };
-        assert_eq!(rt; told.as_str(), *wanted, "{line}");
+        let told = said_of(rt.alloc(), asked, line, *beginning)?;
+        same_for(rt, &told.as_str(), wanted, line);
     }
     Ok(())
 }
@@ -128,7 +136,7 @@ fn sentences_name_the_file_that_is_refused(rt: HostRuntime) -> Result<(), Fail> 
         ("refused X9", any, ""),
         ("", any, ""),
     ];
-    each_has_its_sentence(&rt, rt.alloc(), &log_check(rt.alloc())?, &cases)
+    each_has_its_sentence(&rt, &log_check(rt.alloc())?, &cases)
 }
 
 #[test]
@@ -151,7 +159,7 @@ fn a_file_in_the_wrong_place_is_named(rt: HostRuntime) -> Result<(), Fail> {
         ),
         ("refused T2 of table 0", Beginning::OfTable, table),
     ];
-    each_has_its_sentence(&rt, rt.alloc(), &log_check(rt.alloc())?, &cases)
+    each_has_its_sentence(&rt, &log_check(rt.alloc())?, &cases)
 }
 
 #[test]
@@ -179,7 +187,7 @@ fn a_board_with_the_blank_last_is_named(rt: HostRuntime) -> Result<(), Fail> {
             "pdb_cli: the log would have more than 2^30 bytes, the most that a log may have",
         ),
     ];
-    each_has_its_sentence(&rt, rt.alloc(), &search(rt.alloc())?, &cases)
+    each_has_its_sentence(&rt, &search(rt.alloc())?, &cases)
 }
 
 #[test]
@@ -196,7 +204,7 @@ fn answers_to_claims_have_no_sentence(rt: HostRuntime) -> Result<(), Fail> {
         ("refused M4 of 3 2 1 0 ; U", any, ""),
         ("refused O2 by U of 1 0 2 3 : 3", any, ""),
     ];
-    each_has_its_sentence(&rt, rt.alloc(), &prove(rt.alloc())?, &cases)
+    each_has_its_sentence(&rt, &prove(rt.alloc())?, &cases)
 }
 
 /// The sentence of a run that ended with this line, behind searches that ended below this bound.
@@ -231,7 +239,7 @@ fn a_spent_budget_has_the_bound_that_was_reached(rt: HostRuntime) -> Result<(), 
     ];
     for (asked, line, ended, wanted) in cases {
         let said = said_behind(alloc, asked, line, ended)?;
-        assert_eq!(rt; said.as_str(), wanted, "{line}");
+        same_for(&rt, &said.as_str(), &wanted, &line);
     }
     Ok(())
 }
@@ -244,20 +252,10 @@ fn names_of_one_file_and_of_none(rt: HostRuntime) -> Result<(), Fail> {
         workers: 1,
     });
     let wrong = "pdb_cli: a?b: the table is wrong: entry 0 doesn't fit those one move away";
-    each_has_its_sentence(
-        &rt,
-        rt.alloc(),
-        &table,
-        &[("refused T7 at entry 0", any, wrong)],
-    )?;
+    each_has_its_sentence(&rt, &table, &[("refused T7 at entry 0", any, wrong)])?;
     let replay = Request::Replay(Replay { puzzle: None });
     let off = "pdb_cli: standard input: the move at step 4 takes the blank off the board";
-    each_has_its_sentence(
-        &rt,
-        rt.alloc(),
-        &replay,
-        &[("refused M2 at step 4", any, off)],
-    )?;
+    each_has_its_sentence(&rt, &replay, &[("refused M2 at step 4", any, off)])?;
     let make = Request::MakeTable(MakeTable {
         side: 2,
         mask: 1,
@@ -267,10 +265,10 @@ fn names_of_one_file_and_of_none(rt: HostRuntime) -> Result<(), Fail> {
     });
     let wrong =
         "pdb_cli: what the program made is wrong, as its own check found, and is not kept: please report this";
-    each_has_its_sentence(&rt, rt.alloc(), &make, &[("fault maker", any, wrong)])?;
+    each_has_its_sentence(&rt, &make, &[("fault maker", any, wrong)])?;
     let write =
         "pdb_cli: out: nothing can be kept there: does its folder exist, may you write there, and is there room?";
-    each_has_its_sentence(&rt, rt.alloc(), &make, &[("fault write out", any, write)])
+    each_has_its_sentence(&rt, &make, &[("fault write out", any, write)])
 }
 
 /// Parts of a bound of the board in this file, or of standard input, joined.
@@ -300,7 +298,7 @@ fn parts_have_their_sentences(rt: HostRuntime) -> Result<(), Fail> {
         ("3 2 1 0 : 6 part 0/3", any, ""),
         ("bound 6 of 3 2 1 0 from 3 parts", any, ""),
     ];
-    each_has_its_sentence(&rt, rt.alloc(), &parts(rt.alloc(), Some("b"))?, &cases)?;
+    each_has_its_sentence(&rt, &parts(rt.alloc(), Some("b"))?, &cases)?;
     let of_input = [
         (
             "refused B1 at byte 6",
@@ -313,7 +311,7 @@ fn parts_have_their_sentences(rt: HostRuntime) -> Result<(), Fail> {
             "pdb_cli: standard input: it can't be read: is it there, is it no folder, and may you read it?",
         ),
     ];
-    each_has_its_sentence(&rt, rt.alloc(), &parts(rt.alloc(), None)?, &of_input)
+    each_has_its_sentence(&rt, &parts(rt.alloc(), None)?, &of_input)
 }
 
 /// What is said where nothing is kept under `out`, on a shelf with these files.
@@ -328,18 +326,31 @@ fn said_of_out(
     Ok(format!(in alloc; "{reason}")?)
 }
 
+/// Ends the test where something else is said there.
+fn expect_said_of_out<R: AllocGlobal + Abort>(
+    rt: &R,
+    asked: &Request<'_>,
+    files: &[(&str, &[u8])],
+    wanted: &str,
+) -> Result<(), Fail> {
+    let said = said_of_out(rt.alloc(), asked, files)?;
+    same_text(rt, said.as_str(), wanted);
+    Ok(())
+}
+
+/// A table that is to be kept as `out`.
+fn making<'a>(replace: bool) -> Request<'a> {
+    Request::MakeTable(MakeTable {
+        side: 2,
+        mask: 6,
+        out: "out",
+        replace,
+        workers: 1,
+    })
+}
+
 #[test]
 fn a_file_that_is_spared_is_named(rt: HostRuntime) -> Result<(), Fail> {
-    let alloc = rt.alloc();
-    let making = |replace| {
-        Request::MakeTable(MakeTable {
-            side: 2,
-            mask: 6,
-            out: "out",
-            replace,
-            workers: 1,
-        })
-    };
     let plain =
         "pdb_cli: out: nothing can be kept there: does its folder exist, may you write there, and is there room?";
     let log =
@@ -348,17 +359,14 @@ fn a_file_that_is_spared_is_named(rt: HostRuntime) -> Result<(), Fail> {
         "pdb_cli: out: a table is there, or what can't be read, so no log takes its place: `--replace` allows that";
     let is_log: [(&str, &[u8]); 1] = [("out", b"PDBL\x02 ..")];
     let is_table: [(&str, &[u8]); 1] = [("out", b"PDBT\x01 ..")];
-    assert_eq!(rt; said_of_out(alloc, &making(false), &is_log)?.as_str(), log);
-    assert_eq!(rt;
-        said_of_out(alloc, &making(false), &is_table)?.as_str(),
-        plain
-    );
-    assert_eq!(rt; said_of_out(alloc, &making(true), &is_log)?.as_str(), plain);
-    assert_eq!(rt; said_of_out(alloc, &making(false), &[])?.as_str(), plain);
-    let search = search(alloc)?;
-    assert_eq!(rt; said_of_out(alloc, &search, &is_table)?.as_str(), table);
-    assert_eq!(rt; said_of_out(alloc, &search, &is_log)?.as_str(), plain);
-    Ok(())
+    let sparing = making(false);
+    expect_said_of_out(&rt, &sparing, &is_log, log)?;
+    expect_said_of_out(&rt, &sparing, &is_table, plain)?;
+    expect_said_of_out(&rt, &sparing, &[], plain)?;
+    expect_said_of_out(&rt, &making(true), &is_log, plain)?;
+    let search = search(rt.alloc())?;
+    expect_said_of_out(&rt, &search, &is_table, table)?;
+    expect_said_of_out(&rt, &search, &is_log, plain)
 }
 
 #[test]
@@ -375,23 +383,31 @@ fn beginnings_of_files(rt: HostRuntime) {
         (b"\xff 0", Beginning::OfAny),
     ];
     for (bytes, beginning) in cases {
-        assert_eq!(rt; Beginning::of(bytes), beginning);
+        same(&rt, &Beginning::of(bytes), &beginning);
     }
+}
+
+/// Says these bytes, and ends the test where the last line that was heard then is another.
+fn expect_heard<R: Abort, W: Write>(
+    rt: &R,
+    heard: &mut Heard<'_, W>,
+    bytes: &[u8],
+    line: &[u8],
+) -> Result<(), Fail> {
+    put_bytes(heard, bytes)?;
+    same_bytes(rt, heard.line(), line);
+    Ok(())
 }
 
 #[test]
 fn what_is_heard_goes_on_and_its_last_line_is_kept(rt: HostRuntime) -> Result<(), Fail> {
     let mut out = Vec::new(rt.alloc());
     let mut heard = Heard::new(&mut out);
-    put_bytes(&mut heard, b"sha256 0\nrefused ")?;
-    assert_eq!(rt; heard.line(), b"refused ".as_slice());
-    put_bytes(&mut heard, b"T7\n")?;
-    assert_eq!(rt; heard.line(), b"refused T7".as_slice());
-    put_bytes(&mut heard, &[b'x'; 600])?;
-    assert_eq!(rt; heard.line(), [b'x'; 512].as_slice());
-    put_bytes(&mut heard, b"\n\nb")?;
-    assert_eq!(rt; heard.line(), b"b".as_slice());
-    assert_eq!(rt; out.len(), 9 + 11 + 600 + 3);
+    expect_heard(&rt, &mut heard, b"sha256 0\nrefused ", b"refused ")?;
+    expect_heard(&rt, &mut heard, b"T7\n", b"refused T7")?;
+    expect_heard(&rt, &mut heard, &[b'x'; 600], &[b'x'; 512])?;
+    expect_heard(&rt, &mut heard, b"\n\nb", b"b")?;
+    same(&rt, &out.len(), &(9 + 11 + 600 + 3));
     Ok(())
 }
 
@@ -399,6 +415,7 @@ fn what_is_heard_goes_on_and_its_last_line_is_kept(rt: HostRuntime) -> Result<()
 fn the_example_of_its_page(rt: HostRuntime) -> Result<(), Fail> {
     let asked = log_check(rt.alloc())?;
     let reason = Reason::of(&asked, b"refused S1 at line 0", None);
-    assert_eq!(rt; reason.and_then(|reason| reason.name()), Some("sets"));
+    let name = reason.and_then(|reason| reason.name());
+    same(&rt, &name, &Some("sets"));
     Ok(())
 }

@@ -1,6 +1,6 @@
 //! What words ask for.
 
-use crate::readings::{behind, expect_request};
+use crate::readings::{expect_behind, expect_request};
 use pdb_request::{
     JoinParts, LogCheck, LogClaim, MakeTable, Prove, Replay, Request, Solve, TableCheck,
 };
@@ -44,15 +44,15 @@ fn words_ask_for_a_table(rt: HostRuntime) -> Result<(), Fail> {
     Ok(())
 }
 
-/// A check of the log `l`, with these tables.
-fn log_check<'a>(
+/// The words behind a command ask for a check of the log `l`, with these tables.
+fn expect_log_check(
     alloc: Global,
-    claim: LogClaim,
-    tables: &[&'a str],
-    workers: u8,
-    fold: bool,
-) -> Result<Request<'a>, AllocError> {
-    Ok(Request::LogCheck(LogCheck {
+    (command, claim): (&str, LogClaim),
+    words: &[&str],
+    tables: &[&str],
+    (workers, fold): (u8, bool),
+) -> Result<(), Fail> {
+    let wanted = Request::LogCheck(LogCheck {
         claim,
         text: "c",
         sets: "s",
@@ -60,12 +60,23 @@ fn log_check<'a>(
         tables: tables.to_vec(alloc)?,
         workers,
         fold,
-    }))
+    });
+    expect_behind(alloc, command, words, &wanted)
+}
+
+/// The same behind both commands.
+fn expect_log_checks(
+    alloc: Global,
+    words: &[&str],
+    tables: &[&str],
+    how: (u8, bool),
+) -> Result<(), Fail> {
+    expect_log_check(alloc, ("bound", LogClaim::Bound), words, tables, how)?;
+    expect_log_check(alloc, ("optimal", LogClaim::Optimum), words, tables, how)
 }
 
 #[test]
 fn words_name_the_files_of_a_log(rt: HostRuntime) -> Result<(), Fail> {
-    let alloc = rt.alloc();
     let cases: [(&[&str], &[&str], u8); 8] = [
         (&["c", "s", "l", "t"], &["t"], 1),
         (&["c", "s", "l", "t", "u", "t"], &["t", "u", "t"], 1),
@@ -85,17 +96,13 @@ fn words_name_the_files_of_a_log(rt: HostRuntime) -> Result<(), Fail> {
         ),
     ];
     for (words, tables, workers) in cases {
-        let bound = log_check(alloc, LogClaim::Bound, tables, workers, false)?;
-        expect_request(alloc, behind(alloc, "bound", words)?.as_slice(), &bound)?;
-        let optimal = log_check(alloc, LogClaim::Optimum, tables, workers, false)?;
-        expect_request(alloc, behind(alloc, "optimal", words)?.as_slice(), &optimal)?;
+        expect_log_checks(rt.alloc(), words, tables, (workers, false))?;
     }
     Ok(())
 }
 
 #[test]
 fn words_ask_for_folded_tables(rt: HostRuntime) -> Result<(), Fail> {
-    let alloc = rt.alloc();
     let cases: [(&[&str], &[&str], u8, bool); 9] = [
         (&["--fold", "c", "s", "l", "t"], &["t"], 1, true),
         (&["c", "s", "l", "t", "u", "--fold"], &["t", "u"], 1, true),
@@ -123,10 +130,7 @@ fn words_ask_for_folded_tables(rt: HostRuntime) -> Result<(), Fail> {
         (&["c", "s", "l", "fold"], &["fold"], 1, false),
     ];
     for (words, tables, workers, fold) in cases {
-        let bound = log_check(alloc, LogClaim::Bound, tables, workers, fold)?;
-        expect_request(alloc, behind(alloc, "bound", words)?.as_slice(), &bound)?;
-        let optimal = log_check(alloc, LogClaim::Optimum, tables, workers, fold)?;
-        expect_request(alloc, behind(alloc, "optimal", words)?.as_slice(), &optimal)?;
+        expect_log_checks(rt.alloc(), words, tables, (workers, fold))?;
     }
     Ok(())
 }
@@ -151,11 +155,7 @@ fn words_ask_for_a_table_to_be_made(rt: HostRuntime) -> Result<(), Fail> {
             replace: false,
             workers,
         });
-        expect_request(
-            alloc,
-            behind(alloc, "make-table", words)?.as_slice(),
-            &wanted,
-        )?;
+        expect_behind(alloc, "make-table", words, &wanted)?;
     }
     Ok(())
 }
@@ -204,6 +204,26 @@ type Asked = (u8, bool, u64);
 /// What it is asked to do without flags.
 const USUAL: Asked = (1, false, 1_000_000);
 
+/// The words behind its command ask for a search with these tables.
+fn expect_search(
+    alloc: Global,
+    words: &str,
+    tables: &str,
+    (workers, fold, budget): Asked,
+) -> Result<(), Fail> {
+    let wanted = Request::Solve(Solve {
+        board: "b",
+        sets: "s",
+        out: "o",
+        replace: false,
+        tables: words_of(alloc, tables)?,
+        workers,
+        fold,
+        budget,
+    });
+    expect_text(alloc, "solve", words, &wanted)
+}
+
 #[test]
 fn words_ask_for_a_search(rt: HostRuntime) -> Result<(), Fail> {
     // The words behind the command, and the tables.
@@ -223,24 +243,8 @@ fn words_ask_for_a_search(rt: HostRuntime) -> Result<(), Fail> {
         ("--budget 5 b s o t --fold", "t", (1, true, 5)),
         ("--workers=7 --fold --budget=5 b s o t", "t", (7, true, 5)),
     ];
-    for (words, tables, (workers, fold, budget)) in cases {
-        let alloc = rt.alloc();
-        let wanted = Request::Solve(Solve {
-            board: "b",
-            sets: "s",
-            out: "o",
-            replace: false,
-            tables: words_of(alloc, tables)?,
-            workers,
-            fold,
-            budget,
-        });
-        let words = words_of(alloc, words)?;
-        expect_request(
-            alloc,
-            behind(alloc, "solve", words.as_slice())?.as_slice(),
-            &wanted,
-        )?;
+    for (words, tables, asked) in cases {
+        expect_search(rt.alloc(), words, tables, asked)?;
     }
     Ok(())
 }
@@ -250,6 +254,25 @@ type Searched = (u8, bool, Option<u64>);
 
 /// How they are searched for without flags.
 const WITHOUT_FLAGS: Searched = (1, false, None);
+
+/// The words behind its command ask for proofs of these claims with these tables.
+fn expect_proofs(
+    alloc: Global,
+    words: &str,
+    claims: Option<&str>,
+    tables: &str,
+    (workers, fold, budget): Searched,
+) -> Result<(), Fail> {
+    let wanted = Request::Prove(Prove {
+        claims,
+        sets: "s",
+        tables: words_of(alloc, tables)?,
+        workers,
+        fold,
+        budget,
+    });
+    expect_text(alloc, "prove", words, &wanted)
+}
 
 #[test]
 fn words_ask_for_proofs_of_claims(rt: HostRuntime) -> Result<(), Fail> {
@@ -284,24 +307,26 @@ fn words_ask_for_proofs_of_claims(rt: HostRuntime) -> Result<(), Fail> {
             (2, false, Some(9)),
         ),
     ];
-    for (words, claims, tables, (workers, fold, budget)) in cases {
-        let alloc = rt.alloc();
-        let wanted = Request::Prove(Prove {
-            claims,
-            sets: "s",
-            tables: words_of(alloc, tables)?,
-            workers,
-            fold,
-            budget,
-        });
-        let words = words_of(alloc, words)?;
-        expect_request(
-            alloc,
-            behind(alloc, "prove", words.as_slice())?.as_slice(),
-            &wanted,
-        )?;
+    for (words, claims, tables, searched) in cases {
+        expect_proofs(rt.alloc(), words, claims, tables, searched)?;
     }
     Ok(())
+}
+
+/// The words behind its command ask for answers on a bound in parts to be joined.
+fn expect_parts(
+    alloc: Global,
+    words: &str,
+    (board, bound, count): (Option<&str>, u8, u16),
+    answers: &str,
+) -> Result<(), Fail> {
+    let wanted = Request::JoinParts(JoinParts {
+        board,
+        bound,
+        count,
+        answers: words_of(alloc, answers)?,
+    });
+    expect_text(alloc, "parts", words, &wanted)
 }
 
 #[test]
@@ -313,19 +338,7 @@ fn words_ask_for_parts_to_be_joined(rt: HostRuntime) -> Result<(), Fail> {
         ("-- -b 100 63 -a", Some("-b"), 100, 63, "-a"),
     ];
     for (words, board, bound, count, answers) in cases {
-        let alloc = rt.alloc();
-        let wanted = Request::JoinParts(JoinParts {
-            board,
-            bound,
-            count,
-            answers: words_of(alloc, answers)?,
-        });
-        let words = words_of(alloc, words)?;
-        expect_request(
-            alloc,
-            behind(alloc, "parts", words.as_slice())?.as_slice(),
-            &wanted,
-        )?;
+        expect_parts(rt.alloc(), words, (board, bound, count), answers)?;
     }
     Ok(())
 }
@@ -337,4 +350,10 @@ fn words_of(alloc: Global, text: &str) -> Result<Vec<&str>, AllocError> {
         words.push(word)?;
     }
     Ok(words)
+}
+
+/// The words of a text, behind a command, ask for this.
+fn expect_text(alloc: Global, command: &str, text: &str, wanted: &Request<'_>) -> Result<(), Fail> {
+    let words = words_of(alloc, text)?;
+    expect_behind(alloc, command, words.as_slice(), wanted)
 }

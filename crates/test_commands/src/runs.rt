@@ -1,16 +1,18 @@
 //! A run's beginning and its end: that inputs are read, what is said where one isn't, and what is kept.
 
+use crate::same::{holds_for, same, same_bytes};
 use crate::sha256;
 use crate::telling::io_over;
 use byte_io::memory::MemShelf;
 use byte_io::shelf::Shelf;
 use byte_io::streams::ReadFault;
 use pdb_run::{
-    Command, CommandAnswer, Digested, Input, Keeping, Status, Unanswered, keep_and_conclude, lines,
-    load_all, read_inputs, read_inputs_and_try,
+    Command, CommandAnswer, Digested, Input, Io, Keeping, Status, Unanswered, Unread,
+    keep_and_conclude, lines, load_all, read_inputs, read_inputs_and_try,
 };
-use std::alloc::{AllocError, Global};
+use std::alloc::{AllocError, AllocGlobal, Global};
 use std::io::ErrorKind;
+use std::process::Abort;
 use std::test::Fail;
 use test_streams::{Failing, FailingShelf, SampleReader, SampleWriter, ShelfFault};
 
@@ -38,10 +40,24 @@ impl Command for WantsOne<'_> {
     }
 }
 
+/// Ends the test where a run whose reader fails doesn't say this line alone of an input of this name.
+fn expect_unread_name<R: AllocGlobal + Abort>(
+    rt: &R,
+    shelf: &mut MemShelf,
+    name: Option<&str>,
+    line: &[u8],
+) {
+    let mut reader = SampleReader::new(b"").failing(0, u64::MAX, ErrorKind::Other);
+    let mut out = SampleWriter::new(rt.alloc());
+    let mut io = io_over(shelf, &mut reader, &mut out);
+    let ended = read_inputs(rt.alloc(), &WantsOne { name }, &mut io);
+    assert!(rt; ended.err() == Some(Status::Fault) && out.calls() == 1);
+    same_bytes(rt, out.taken(), line);
+}
+
 #[test]
 fn a_name_is_shown_without_its_control_characters(rt: HostRuntime) -> Result<(), Fail> {
-    let alloc = rt.alloc();
-    let mut shelf = MemShelf::of(alloc, &[("big\u{1b}[2J", b"12345")])?;
+    let mut shelf = MemShelf::of(rt.alloc(), &[("big\u{1b}[2J", b"12345")])?;
     let cases: [(Option<&str>, &[u8]); 5] = [
         (None, b"fault read -\n"),
         (Some("x\nsolution 80"), b"fault read x?solution 80\n"),
@@ -50,30 +66,34 @@ fn a_name_is_shown_without_its_control_characters(rt: HostRuntime) -> Result<(),
         (Some(""), b"fault read \n"),
     ];
     for (name, line) in cases {
-        let mut reader = SampleReader::new(b"").failing(0, u64::MAX, ErrorKind::Other);
-        let mut out = SampleWriter::new(alloc);
-        let mut io = io_over(&mut shelf, &mut reader, &mut out);
-        let ended = read_inputs(alloc, &WantsOne { name }, &mut io);
-        assert!(rt; ended.err() == Some(Status::Fault) && out.calls() == 1);
-        assert!(rt; out.taken() == line);
+        expect_unread_name(&rt, &mut shelf, name, line);
     }
     Ok(())
 }
 
+/// Ends the test where the input of this name has other bytes, or something is written.
+fn expect_read<R: AllocGlobal + Abort>(
+    rt: &R,
+    shelf: &mut MemShelf,
+    reader: &mut &[u8],
+    name: Option<&str>,
+    bytes: &[u8],
+) {
+    let mut out = SampleWriter::new(rt.alloc());
+    let mut io = io_over(shelf, reader, &mut out);
+    let inputs = read_inputs(rt.alloc(), &WantsOne { name }, &mut io);
+    let inputs = inputs.ok().unwrap_or(Vec::new(rt.alloc()));
+    assert!(rt; inputs.len() == 1);
+    same_bytes(rt, inputs[0].as_slice(), bytes);
+    same(rt, &out.calls(), &0);
+}
+
 #[test]
 fn an_input_is_read_whole(rt: HostRuntime) -> Result<(), Fail> {
-    let alloc = rt.alloc();
-    let mut shelf = MemShelf::of(alloc, &[("four", b"1234")])?;
+    let mut shelf = MemShelf::of(rt.alloc(), &[("four", b"1234")])?;
     let mut reader = b"abc".as_slice();
-    for (name, bytes) in [(Some("four"), b"1234".as_slice()), (None, b"abc")] {
-        let mut out = SampleWriter::new(alloc);
-        let mut io = io_over(&mut shelf, &mut reader, &mut out);
-        let inputs = read_inputs(alloc, &WantsOne { name }, &mut io);
-        let inputs = inputs.ok().unwrap_or(Vec::new(alloc));
-        assert_eq!(rt; inputs.len(), 1);
-        assert!(rt; inputs[0].as_slice() == bytes);
-        assert_eq!(rt; out.calls(), 0);
-    }
+    expect_read(&rt, &mut shelf, &mut reader, Some("four"), b"1234");
+    expect_read(&rt, &mut shelf, &mut reader, None, b"abc");
     Ok(())
 }
 
@@ -87,33 +107,58 @@ fn has_its_files(shelf: &FailingShelf) -> bool {
         .all(|(name, bytes)| shelf.files().get(name) == Some(*bytes))
 }
 
+/// Inputs of these names.
+const INPUTS: [Input<'_>; 3] = [
+    Input {
+        name: Some("a"),
+        limit: 5,
+    },
+    Input {
+        name: Some("b"),
+        limit: 5,
+    },
+    Input {
+        name: Some("c"),
+        limit: 5,
+    },
+];
+
+/// The first input that is not read.
+fn first_unread<'a, I: Io>(
+    alloc: Global,
+    wanted: &[Input<'a>],
+    io: &mut I,
+) -> Result<Unread<'a>, Fail> {
+    let room = Vec::with_capacity(alloc, wanted.len())?;
+    let loaded = load_all(alloc, wanted, room, io);
+    Ok(loaded.err().ok_or("an input is not read")?)
+}
+
+/// Ends the test where the input of this number and name isn't the first that is not read, for a fault of its call.
+fn expect_unread<R: AllocGlobal + Abort>(
+    rt: &R,
+    (call, name): (u64, &str),
+    fault: ShelfFault,
+    why: ReadFault,
+) -> Result<(), Fail> {
+    let mut shelf = FailingShelf::new(MemShelf::of(rt.alloc(), &FILES)?, call, fault);
+    let mut reader = b"".as_slice();
+    let mut out = SampleWriter::new(rt.alloc());
+    let mut io = io_over(&mut shelf, &mut reader, &mut out);
+    let unread = first_unread(rt.alloc(), &INPUTS, &mut io)?;
+    assert!(rt; unread.input.name == Some(name) && unread.why == why);
+    let called = (shelf.calls(), shelf.failed());
+    same(rt, &called, &(call.saturating_add(1), why == ReadFault::F1));
+    assert!(rt; has_its_files(&shelf));
+    Ok(())
+}
+
 #[test]
 fn the_first_input_that_is_not_read_is_named(rt: HostRuntime) -> Result<(), Fail> {
-    let alloc = rt.alloc();
-    let wanted = FILES.map(|(name, _)| Input {
-        name: Some(name),
-        limit: 5,
-    });
-    for (call, (name, _)) in (0..).zip(FILES) {
-        for (fault, why) in [
-            (ShelfFault::Device, ReadFault::F1),
-            (ShelfFault::Size, ReadFault::F2),
-            (ShelfFault::Memory, ReadFault::Memory),
-        ] {
-            let mut shelf = FailingShelf::new(MemShelf::of(alloc, &FILES)?, call, fault);
-            let mut reader = b"".as_slice();
-            let mut out = SampleWriter::new(alloc);
-            let mut io = io_over(&mut shelf, &mut reader, &mut out);
-            let room = Vec::with_capacity(alloc, wanted.len())?;
-            let loaded = load_all(alloc, &wanted, room, &mut io);
-            let unread = loaded.err().ok_or("an input is not read")?;
-            assert!(rt; unread.input.name == Some(name) && unread.why == why);
-            assert_eq!(rt;
-                (shelf.calls(), shelf.failed()),
-                (call + 1, why == ReadFault::F1)
-            );
-            assert!(rt; has_its_files(&shelf));
-        }
+    for input in [(0, "a"), (1, "b"), (2, "c")] {
+        expect_unread(&rt, input, ShelfFault::Device, ReadFault::F1)?;
+        expect_unread(&rt, input, ShelfFault::Size, ReadFault::F2)?;
+        expect_unread(&rt, input, ShelfFault::Memory, ReadFault::Memory)?;
     }
     Ok(())
 }
@@ -152,43 +197,87 @@ fn begin_making<S: Shelf>(
     read_inputs_and_try(alloc, &command, keeping, &mut io)
 }
 
+/// Ends the test where a run can't begin.
+fn expect_begun<R: AllocGlobal + Abort>(
+    rt: &R,
+    name: &str,
+    shelf: &mut MemShelf,
+    out: &mut SampleWriter,
+) {
+    let begun = begin_making(rt.alloc(), name, shelf, out);
+    assert!(rt; begun.is_ok_and(|inputs| inputs.is_empty()));
+}
+
 #[test]
 fn a_name_that_can_be_kept_under_lets_a_run_begin(rt: HostRuntime) -> Result<(), Fail> {
-    let alloc = rt.alloc();
-    let mut shelf = MemShelf::of(alloc, &FILES)?;
-    let mut out = SampleWriter::new(alloc);
-    for name in ["a", "new"] {
-        let begun = begin_making(alloc, name, &mut shelf, &mut out);
-        assert!(rt; begun.is_ok_and(|inputs| inputs.is_empty()));
-    }
+    let mut shelf = MemShelf::of(rt.alloc(), &FILES)?;
+    let mut out = SampleWriter::new(rt.alloc());
+    expect_begun(&rt, "a", &mut shelf, &mut out);
+    expect_begun(&rt, "new", &mut shelf, &mut out);
     assert!(rt; shelf.get("a") == Some(FILES[0].1) && shelf.get("new").is_none());
-    assert_eq!(rt; (out.calls(), shelf.failed()), (0, false));
+    same(&rt, &(out.calls(), shelf.failed()), &(0, false));
+    Ok(())
+}
+
+/// A fault of a shelf, the name under which something is to be kept there, and what the run says and how it ends then.
+#[derive(Clone, Copy)]
+struct Unkept<'a> {
+    why: ShelfFault,
+    name: &'a str,
+    line: &'a [u8],
+    status: Status,
+}
+
+/// Each of them.
+const UNKEPT: [Unkept<'_>; 3] = [
+    Unkept {
+        why: ShelfFault::Device,
+        name: "a",
+        line: b"fault write a\n",
+        status: Status::Fault,
+    },
+    Unkept {
+        why: ShelfFault::Device,
+        name: "a b\n",
+        line: b"fault write a b?\n",
+        status: Status::Fault,
+    },
+    Unkept {
+        why: ShelfFault::Memory,
+        name: "a",
+        line: b"no memory\n",
+        status: Status::NoMemory,
+    },
+];
+
+/// Ends the test where a run over this shelf ended otherwise, wrote more than the line, called the shelf once more or changed it.
+fn expect_unkept<R: Abort>(
+    rt: &R,
+    unkept: &Unkept<'_>,
+    status: Option<Status>,
+    shelf: &FailingShelf,
+    out: &SampleWriter,
+) {
+    same(rt, &(status, out.calls()), &(Some(unkept.status), 1));
+    same_bytes(rt, out.taken(), unkept.line);
+    assert!(rt; has_its_files(shelf) && shelf.files().get("a b\n").is_none());
+    let called = (shelf.calls(), shelf.failed());
+    same(rt, &called, &(1, unkept.status == Status::Fault));
+}
+
+/// Ends the test where a run begins though a name can't be kept under.
+fn expect_not_begun<R: AllocGlobal + Abort>(rt: &R, unkept: &Unkept<'_>) -> Result<(), AllocError> {
+    let mut shelf = FailingShelf::new(MemShelf::of(rt.alloc(), &FILES)?, 0, unkept.why);
+    let mut out = SampleWriter::new(rt.alloc());
+    let begun = begin_making(rt.alloc(), unkept.name, &mut shelf, &mut out);
+    expect_unkept(rt, unkept, begun.err(), &shelf, &out);
     Ok(())
 }
 
 #[test]
 fn a_name_that_can_not_be_kept_under_ends_a_run(rt: HostRuntime) -> Result<(), Fail> {
-    let alloc = rt.alloc();
-    let cases: [(ShelfFault, &str, &[u8], Status); 3] = [
-        (ShelfFault::Device, "a", b"fault write a\n", Status::Fault),
-        (
-            ShelfFault::Device,
-            "a b\n",
-            b"fault write a b?\n",
-            Status::Fault,
-        ),
-        (ShelfFault::Memory, "a", b"no memory\n", Status::NoMemory),
-    ];
-    for (why, name, line, want) in cases {
-        let mut shelf = FailingShelf::new(MemShelf::of(alloc, &FILES)?, 0, why);
-        let mut out = SampleWriter::new(alloc);
-        let begun = begin_making(alloc, name, &mut shelf, &mut out);
-        assert!(rt; begun.err() == Some(want) && out.taken() == line);
-        assert!(rt; has_its_files(&shelf) && shelf.files().get("a b\n").is_none());
-        assert_eq!(rt;
-            (out.calls(), shelf.calls(), shelf.failed()),
-            (1, 1, want == Status::Fault)
-        );
+    for unkept in &UNKEPT {
+        expect_not_begun(&rt, unkept)?;
     }
     Ok(())
 }
@@ -218,17 +307,55 @@ impl Command for Spares<'_> {
     }
 }
 
+/// Files, one of which is read.
+const SPARED: [(&str, &[u8]); 5] = [
+    ("read", b"xyz"),
+    ("a", b"a"),
+    ("b", b"bcd"),
+    ("c", b"bac"),
+    ("d", b""),
+];
+
+/// The beginning of its run, over an empty reader.
+fn begin_sparing(
+    alloc: Global,
+    out_name: &str,
+    shelf: &mut MemShelf,
+    out: &mut SampleWriter,
+) -> Result<Vec<Vec<u8>>, Status> {
+    let command = Spares {
+        input: "read",
+        out: out_name,
+    };
+    let mut reader = b"".as_slice();
+    let fronts: [&[u8]; 2] = [b"a", b"bc"];
+    let keeping = Keeping {
+        name: out_name,
+        spares: Some(&fronts),
+    };
+    let mut io = io_over(shelf, &mut reader, out);
+    read_inputs_and_try(alloc, &command, keeping, &mut io)
+}
+
+/// Ends the test where a run that is to keep under a name begins though that is spared, or doesn't begin though it isn't.
+fn expect_spared<R: AllocGlobal + Abort>(
+    rt: &R,
+    name: &str,
+    spared: bool,
+) -> Result<(), AllocError> {
+    let mut shelf = MemShelf::of(rt.alloc(), &SPARED)?;
+    let mut out = SampleWriter::new(rt.alloc());
+    let begun = begin_sparing(rt.alloc(), name, &mut shelf, &mut out);
+    let wanted = if spared { Some(Status::Fault) } else { None };
+    holds_for(rt, begun.err() == wanted && !shelf.failed(), &name);
+    let line = format!(in rt.alloc(); "fault write {name}\n")?;
+    let said = if spared { line.as_bytes() } else { b"" };
+    same_bytes(rt, out.taken(), said);
+    Ok(())
+}
+
 #[test]
 fn a_file_that_is_spared_ends_a_run(rt: HostRuntime) -> Result<(), Fail> {
-    let alloc = rt.alloc();
-    let files: [(&str, &[u8]); 5] = [
-        ("read", b"xyz"),
-        ("a", b"a"),
-        ("b", b"bcd"),
-        ("c", b"bac"),
-        ("d", b""),
-    ];
-    let fronts: [&[u8]; 2] = [b"a", b"bc"];
     for (name, spared) in [
         ("read", true),
         ("a", true),
@@ -237,24 +364,7 @@ fn a_file_that_is_spared_ends_a_run(rt: HostRuntime) -> Result<(), Fail> {
         ("d", false),
         ("new", false),
     ] {
-        let mut shelf = MemShelf::of(alloc, &files)?;
-        let mut out = SampleWriter::new(alloc);
-        let mut reader = b"".as_slice();
-        let command = Spares {
-            input: "read",
-            out: name,
-        };
-        let keeping = Keeping {
-            name,
-            spares: Some(&fronts),
-        };
-        let mut io = io_over(&mut shelf, &mut reader, &mut out);
-        let begun = read_inputs_and_try(alloc, &command, keeping, &mut io);
-        let line = format!(in alloc; "fault write {name}\n")?;
-        let said = if spared { line.as_bytes() } else { b"" };
-        assert!(rt; begun.is_err() == spared && out.taken() == said, "{name}");
-        assert!(rt; begun.err().is_none_or(|status| status == Status::Fault));
-        assert!(rt; !shelf.failed(), "{name}");
+        expect_spared(&rt, name, spared)?;
     }
     Ok(())
 }
@@ -293,6 +403,18 @@ fn conclude_making<S: Shelf>(
     )
 }
 
+/// The same where it made `abc`.
+fn conclude_abc<S: Shelf>(
+    alloc: Global,
+    out_name: &str,
+    is_yes: bool,
+    shelf: &mut S,
+    out: &mut SampleWriter,
+) -> Status {
+    let answer = makes_abc(alloc, is_yes);
+    conclude_making(alloc, out_name, &answer, shelf, out)
+}
+
 /// Whether a run wrote the digest lines of its last input and of what it made, and then this one.
 fn has_digests_and(taken: &[u8], line: &[u8]) -> bool {
     let behind = taken
@@ -303,81 +425,76 @@ fn has_digests_and(taken: &[u8], line: &[u8]) -> bool {
 
 #[test]
 fn a_file_that_was_made_is_kept_after_a_yes(rt: HostRuntime) -> Result<(), Fail> {
-    let alloc = rt.alloc();
-    let mut shelf = MemShelf::of(alloc, &[("o", b"old"), ("p", b"other")])?;
-    let mut out = SampleWriter::new(alloc);
-    let status = conclude_making(alloc, "o", &makes_abc(alloc, true), &mut shelf, &mut out);
-    assert_eq!(rt; (status, out.calls()), (Status::Yes, 1));
-    for (name, bytes) in [("o", b"abc".as_slice()), ("p", b"other")] {
-        assert!(rt; shelf.get(name) == Some(bytes), "{name}");
-    }
+    let mut shelf = MemShelf::of(rt.alloc(), &[("o", b"old"), ("p", b"other")])?;
+    let mut out = SampleWriter::new(rt.alloc());
+    let status = conclude_abc(rt.alloc(), "o", true, &mut shelf, &mut out);
+    same(&rt, &(status, out.calls()), &(Status::Yes, 1));
+    assert!(rt; shelf.get("o") == Some(b"abc".as_slice()));
+    assert!(rt; shelf.get("p") == Some(b"other".as_slice()));
     assert!(rt; has_digests_and(out.taken(), b"exact\n"));
     Ok(())
 }
 
 #[test]
 fn a_file_is_kept_before_any_line(rt: HostRuntime) -> Result<(), Fail> {
-    let alloc = rt.alloc();
-    let mut shelf = MemShelf::of(alloc, &[])?;
-    let mut out = SampleWriter::new(alloc).failing(0, u64::MAX, Failing::ByTakingNothing);
-    let status = conclude_making(alloc, "o", &makes_abc(alloc, true), &mut shelf, &mut out);
-    assert_eq!(rt; status, Status::Fault);
-    assert!(rt; out.taken().is_empty());
-    assert!(rt; shelf.get("o") == Some(b"abc".as_slice()));
+    let mut shelf = MemShelf::of(rt.alloc(), &[])?;
+    let mut out = SampleWriter::new(rt.alloc()).failing(0, u64::MAX, Failing::ByTakingNothing);
+    let status = conclude_abc(rt.alloc(), "o", true, &mut shelf, &mut out);
+    same(&rt, &status, &Status::Fault);
+    assert!(rt; out.taken().is_empty() && shelf.get("o") == Some(b"abc".as_slice()));
     Ok(())
 }
 
 #[test]
 fn nothing_is_kept_after_a_no(rt: HostRuntime) -> Result<(), Fail> {
-    let alloc = rt.alloc();
-    let mut shelf = MemShelf::of(alloc, &[("o", b"old")])?;
-    let mut out = SampleWriter::new(alloc);
-    let status = conclude_making(alloc, "o", &makes_abc(alloc, false), &mut shelf, &mut out);
-    assert_eq!(rt; status, Status::Refused);
+    let mut shelf = MemShelf::of(rt.alloc(), &[("o", b"old")])?;
+    let mut out = SampleWriter::new(rt.alloc());
+    let status = conclude_abc(rt.alloc(), "o", false, &mut shelf, &mut out);
+    same(&rt, &status, &Status::Refused);
     assert!(rt; has_digests_and(out.taken(), b"refused T7\n"));
     assert!(rt; shelf.get("o") == Some(b"old".as_slice()));
     Ok(())
 }
 
+/// Ends the test where a run without an answer ends otherwise, says more than this line or keeps something.
+fn expect_unanswered<R: AllocGlobal + Abort>(
+    rt: &R,
+    why: Unanswered,
+    line: &[u8],
+    wanted: Status,
+) -> Result<(), AllocError> {
+    let mut shelf = MemShelf::of(rt.alloc(), &[("o", b"old")])?;
+    let mut out = SampleWriter::new(rt.alloc());
+    let status = conclude_making(rt.alloc(), "o", &Err(why), &mut shelf, &mut out);
+    same(rt, &status, &wanted);
+    same_bytes(rt, out.taken(), line);
+    assert!(rt; shelf.get("o") == Some(b"old".as_slice()) && !shelf.failed());
+    Ok(())
+}
+
 #[test]
 fn nothing_is_kept_without_an_answer(rt: HostRuntime) -> Result<(), Fail> {
-    let alloc = rt.alloc();
-    let cases: [(Unanswered, &[u8], Status); 2] = [
-        (Unanswered::Memory, b"no memory\n", Status::NoMemory),
-        (Unanswered::Wrong, b"fault maker\n", Status::Fault),
-    ];
-    for (why, line, want) in cases {
-        let mut shelf = MemShelf::of(alloc, &[("o", b"old")])?;
-        let mut out = SampleWriter::new(alloc);
-        let status = conclude_making(alloc, "o", &Err(why), &mut shelf, &mut out);
-        assert_eq!(rt; status, want);
-        assert!(rt; out.taken() == line);
-        assert!(rt; shelf.get("o") == Some(b"old".as_slice()) && !shelf.failed());
-    }
+    expect_unanswered(&rt, Unanswered::Memory, b"no memory\n", Status::NoMemory)?;
+    expect_unanswered(&rt, Unanswered::Wrong, b"fault maker\n", Status::Fault)?;
+    Ok(())
+}
+
+/// Ends the test where a keep that fails is not said alone.
+fn expect_not_concluded<R: AllocGlobal + Abort>(
+    rt: &R,
+    unkept: &Unkept<'_>,
+) -> Result<(), AllocError> {
+    let mut shelf = FailingShelf::new(MemShelf::of(rt.alloc(), &FILES)?, 0, unkept.why);
+    let mut out = SampleWriter::new(rt.alloc());
+    let status = conclude_abc(rt.alloc(), unkept.name, true, &mut shelf, &mut out);
+    expect_unkept(rt, unkept, Some(status), &shelf, &out);
     Ok(())
 }
 
 #[test]
 fn a_keep_that_fails_is_said_alone(rt: HostRuntime) -> Result<(), Fail> {
-    let alloc = rt.alloc();
-    let cases: [(ShelfFault, &str, &[u8], Status); 3] = [
-        (ShelfFault::Device, "a", b"fault write a\n", Status::Fault),
-        (
-            ShelfFault::Device,
-            "a b\n",
-            b"fault write a b?\n",
-            Status::Fault,
-        ),
-        (ShelfFault::Memory, "a", b"no memory\n", Status::NoMemory),
-    ];
-    for (why, name, line, want) in cases {
-        let mut shelf = FailingShelf::new(MemShelf::of(alloc, &FILES)?, 0, why);
-        let mut out = SampleWriter::new(alloc);
-        let status = conclude_making(alloc, name, &makes_abc(alloc, true), &mut shelf, &mut out);
-        assert_eq!(rt; (status, out.calls()), (want, 1));
-        assert!(rt; out.taken() == line);
-        assert!(rt; has_its_files(&shelf) && shelf.files().get("a b\n").is_none());
-        assert_eq!(rt; (shelf.calls(), shelf.failed()), (1, want == Status::Fault));
+    for unkept in &UNKEPT {
+        expect_not_concluded(&rt, unkept)?;
     }
     Ok(())
 }

@@ -1,8 +1,13 @@
 //! Set texts, of which a line is told before the run begins.
 
-use crate::asked::{Named, bound, sentence, told_of};
+use crate::asked::{Named, bound, expect_each_told, expect_sentence, expect_told};
+use crate::same::same;
 use pdb_early::{Look, line_ahead};
+use std::alloc::AllocGlobal;
+use std::process::Abort;
+use std::sync::Wait;
 use std::test::Fail;
+use std::thread::Threads;
 use test_samples::files::{TILE_1, TILE_3, TILES_12};
 use test_samples::logs::LEAF;
 use test_streams::SampleFiles;
@@ -32,11 +37,7 @@ fn a_line_that_is_none_of_a_set_is_told(rt: HostRuntime) -> Result<(), Fail> {
         (b"set 2\nset 1 0\n", "refused S1 at line 1"),
         (b"set 0 2t\n", "refused S2 at line 0"),
     ];
-    for (text, line) in cases {
-        let told = told_of(&rt, rt.alloc(), &asked, &[("sets", text)], &FILES)?;
-        assert_eq!(rt; told.as_str(), line);
-    }
-    Ok(())
+    expect_each_told(&rt, &asked, "sets", &cases, &FILES)
 }
 
 #[test]
@@ -52,37 +53,32 @@ fn tiles_that_meet_are_told(rt: HostRuntime) -> Result<(), Fail> {
         (b"set 0 1\nset 2\n", "refused S2 at line 1"),
         (b"set 1\nset 0t\n", ""),
     ];
-    for (text, line) in cases {
-        let told = told_of(
-            &rt,
-            rt.alloc(),
-            &asked,
-            &[("sets", text), ("t1", &TILE_1)],
-            &FILES,
-        )?;
-        assert_eq!(rt; told.as_str(), line);
-    }
-    Ok(())
+    let others: [Named<'_>; 4] = [("t1", &TILE_1), FILES[0], FILES[1], FILES[2]];
+    expect_each_told(&rt, &asked, "sets", &cases, &others)
+}
+
+/// A set text of seventeen lines of six bytes.
+const SEVENTEEN_LINES: &[u8; 102] = b"set 0\nset 0\nset 0\nset 0\nset 0\nset 0\nset 0\nset 0\n\
+        set 0\nset 0\nset 0\nset 0\nset 0\nset 0\nset 0\nset 0\nset 1\n";
+
+/// Ends the test where another line is told of this set text over these tables.
+fn expect_told_over<H: AllocGlobal + Threads + Wait + Abort>(
+    rt: &H,
+    tables: &[&str],
+    sets: &[u8],
+    line: &str,
+) -> Result<(), Fail> {
+    let asked = bound(rt.alloc(), tables)?;
+    expect_told(rt, &asked, &[("sets", sets)], &FILES, line)
 }
 
 #[test]
 fn seventeen_lines_or_tables_are_told(rt: HostRuntime) -> Result<(), Fail> {
-    let asked = bound(rt.alloc(), &["t0"])?;
-    let lines = b"set 0\nset 0\nset 0\nset 0\nset 0\nset 0\nset 0\nset 0\n\
-        set 0\nset 0\nset 0\nset 0\nset 0\nset 0\nset 0\nset 0\nset 1\n";
-    let told = told_of(&rt, rt.alloc(), &asked, &[("sets", &lines[..96])], &FILES)?;
-    assert_eq!(rt; told.as_str(), "");
-    let told = told_of(&rt, rt.alloc(), &asked, &[("sets", lines)], &FILES)?;
-    assert_eq!(rt; told.as_str(), "refused S5");
-    let asked = bound(rt.alloc(), &["t0"; 16])?;
-    let told = told_of(&rt, rt.alloc(), &asked, &[("sets", b"set 15\n")], &FILES)?;
-    assert_eq!(rt; told.as_str(), "");
-    let told = told_of(&rt, rt.alloc(), &asked, &[("sets", b"set 16\n")], &FILES)?;
-    assert_eq!(rt; told.as_str(), "refused S2 at line 0");
-    let asked = bound(rt.alloc(), &["t0"; 17])?;
-    let told = told_of(&rt, rt.alloc(), &asked, &[("sets", b"set 16\n")], &FILES)?;
-    assert_eq!(rt; told.as_str(), "refused S5");
-    Ok(())
+    expect_told_over(&rt, &["t0"], &SEVENTEEN_LINES[..96], "")?;
+    expect_told_over(&rt, &["t0"], SEVENTEEN_LINES, "refused S5")?;
+    expect_told_over(&rt, &["t0"; 16], b"set 15\n", "")?;
+    expect_told_over(&rt, &["t0"; 16], b"set 16\n", "refused S2 at line 0")?;
+    expect_told_over(&rt, &["t0"; 17], b"set 16\n", "refused S5")
 }
 
 #[test]
@@ -103,7 +99,7 @@ fn their_sentences_name_the_set_text(rt: HostRuntime) -> Result<(), Fail> {
         ),
     ];
     for (line, wanted) in cases {
-        assert_eq!(rt; sentence(rt.alloc(), &asked, line)?.as_str(), wanted);
+        expect_sentence(&rt, &asked, line, wanted)?;
     }
     Ok(())
 }
@@ -118,9 +114,7 @@ fn the_example_of_its_page(rt: HostRuntime) -> Result<(), Fail> {
         files: &files,
     };
     let line = line_ahead(&look, &asked);
-    assert_eq!(rt;
-        line.as_ref().map(|line| line.as_str()),
-        Some("refused S1 at line 0\n")
-    );
+    let text = line.as_ref().map(|line| line.as_str());
+    same(&rt, &text, &Some("refused S1 at line 0\n"));
     Ok(())
 }

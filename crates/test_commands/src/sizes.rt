@@ -1,44 +1,60 @@
 //! Which runs may take long.
 
 use crate::asked::{bound, prove, search};
+use crate::same::same_for;
 use pdb_early::takes_long;
 use pdb_request::{Replay, Request, TableCheck};
+use std::alloc::{AllocError, AllocGlobal, Global};
+use std::process::Abort;
 use std::test::Fail;
 use test_streams::SampleFiles;
 
 /// The least number of bytes of tables whose check may take long.
 const MANY: usize = 4_194_304;
 
-#[test]
-fn tables_of_many_bytes_may_take_long(rt: HostRuntime) -> Result<(), Fail> {
-    let alloc = rt.alloc();
+/// A file of many bytes, one of half as many, one of one less, and a folder.
+fn large_files(alloc: Global) -> Result<SampleFiles, AllocError> {
     let bytes = vec![in alloc; 0_u8; MANY]?;
-    let less = vec![in alloc; 0_u8; MANY - 1]?;
-    let half = vec![in alloc; 0_u8; MANY / 2]?;
-    let files = SampleFiles::new(
+    let bytes = bytes.as_slice();
+    SampleFiles::new(
         alloc,
         &[
-            ("t0", bytes.as_slice()),
-            ("less", less.as_slice()),
-            ("half", half.as_slice()),
+            ("t0", bytes),
+            ("less", &bytes[1..]),
+            ("half", &bytes[MANY / 2..]),
             ("folder/", b""),
         ],
-    )?;
-    let cases = [
-        ("t0", "no file", true),
-        ("less", "no file", false),
-        ("less", "half", true),
-        ("half", "half", true),
-        ("half", "no file", false),
-        ("folder/", "no file", true),
-        ("no file", "no file", false),
-    ];
-    for (first, second, wanted) in cases {
-        let asked = bound(alloc, &[first, second])?;
-        assert_eq!(rt; takes_long(&files, &asked), wanted, "{first} {second}");
+    )
+}
+
+/// Ends the test where a run over these two tables may take long though this isn't wanted, or the other way round.
+fn expect_long<R: AllocGlobal + Abort>(
+    rt: &R,
+    files: &SampleFiles,
+    tables: [&str; 2],
+    wanted: bool,
+) -> Result<(), AllocError> {
+    let asked = bound(rt.alloc(), &tables)?;
+    same_for(rt, &takes_long(files, &asked), &wanted, &tables);
+    Ok(())
+}
+
+#[test]
+fn tables_of_many_bytes_may_take_long(rt: HostRuntime) -> Result<(), Fail> {
+    let files = large_files(rt.alloc())?;
+    for (tables, wanted) in [
+        (["t0", "no file"], true),
+        (["less", "no file"], false),
+        (["less", "half"], true),
+        (["half", "half"], true),
+        (["half", "no file"], false),
+        (["folder/", "no file"], true),
+        (["no file", "no file"], false),
+    ] {
+        expect_long(&rt, &files, tables, wanted)?;
     }
-    assert!(rt; takes_long(&files, &search(alloc)?));
-    assert!(rt; takes_long(&files, &prove(alloc, None)?));
+    assert!(rt; takes_long(&files, &search(rt.alloc())?));
+    assert!(rt; takes_long(&files, &prove(rt.alloc(), None)?));
     Ok(())
 }
 

@@ -1,12 +1,16 @@
 //! Tables that are made, what is told of them, and what is kept.
 
+ghost use Rattle.std.specs.Prelude.{◌≡◌, ◌<◌, ◌≤◌};
+
+use crate::same::{holds_for, same, same_bytes};
 use crate::sha256;
 use crate::telling::{io_over, joined};
 use byte_io::memory::MemShelf;
 use pdb_keep::run_make_table;
 use pdb_request::MakeTable;
 use pdb_run::Status;
-use std::alloc::Global;
+use std::alloc::{AllocGlobal, Global};
+use std::process::Abort;
 use std::sync::Wait;
 use std::test::Fail;
 use std::thread::Threads;
@@ -23,36 +27,51 @@ struct Case<'a> {
     line: &'a [u8],
 }
 
-/// Whether a table that is made, by some workers, is kept as the file of its case and told so.
-fn makes<H: Threads + Wait + Sync>(rt: &H, alloc: Global, case: &Case<'_>) -> Result<bool, Fail> {
-    let Case {
+/// How making a table by so many workers ends, over a shelf where `o` is the name to keep it under.
+fn made<H: Threads + Wait + Sync>(
+    rt: &H,
+    alloc: Global,
+    command: &MakeTable<'_>,
+    shelf: &mut MemShelf,
+    out: &mut Vec<u8>,
+) -> Status
+    requires { (0 < command.now.workers) × (command.now.workers ≤ 64) }
+{
+    let workers = Workers::new(rt, alloc, command.workers, &OpenGate);
+    let mut reader = b"".as_slice();
+    run_make_table(command, &workers, &mut io_over(shelf, &mut reader, out))
+}
+
+/// A table of this pattern that is to be made by so many workers.
+fn command<'a>(side: u8, mask: u32, workers: u8) -> MakeTable<'a>
+    ensures { result.workers ≡ workers }
+{
+    MakeTable {
         side,
         mask,
-        file,
-        digest,
-        line,
-    } = *case;
-    let told = joined(alloc, &[digest, line])?;
+        out: "o",
+        replace: false,
+        workers,
+    }
+}
+
+/// Ends the test where a table that is made, by some workers, isn't kept as the file of its case and told so.
+fn expect_made<H: AllocGlobal + Threads + Wait + Sync + Abort>(
+    rt: &H,
+    case: &Case<'_>,
+) -> Result<(), Fail> {
+    let alloc = rt.alloc();
+    let told = joined(alloc, &[case.digest, case.line])?;
     for count in [1u8, 2, 7] {
         let mut shelf = MemShelf::of(alloc, &[("o", b"old".as_slice())])?;
-        let workers = Workers::new(rt, alloc, count, &OpenGate);
         let mut out = Vec::new(alloc);
-        let mut reader = b"".as_slice();
-        let command = MakeTable {
-            side,
-            mask,
-            out: "o",
-            replace: false,
-            workers: count,
-        };
-        let mut io = io_over(&mut shelf, &mut reader, &mut out);
-        let status = run_make_table(&command, &workers, &mut io);
-        let is_kept = shelf.get("o") == Some(file);
-        if status != Status::Yes || out != told || !is_kept {
-            return Ok(false);
-        }
+        let command = command(case.side, case.mask, count);
+        let status = made(rt, alloc, &command, &mut shelf, &mut out);
+        same(rt, &status, &Status::Yes);
+        same_bytes(rt, out.as_slice(), told.as_slice());
+        holds_for(rt, shelf.get("o") == Some(case.file), &count);
     }
-    Ok(true)
+    Ok(())
 }
 
 #[test]
@@ -81,32 +100,31 @@ fn tables_are_made_told_and_kept(rt: HostRuntime) -> Result<(), Fail> {
         },
     ];
     for case in &cases {
-        assert!(rt; makes(&rt, rt.alloc(), case)?);
+        expect_made(&rt, case)?;
     }
+    Ok(())
+}
+
+/// Ends the test where something is made of a side and a mask, or this is told otherwise.
+fn expect_no_pattern<H: AllocGlobal + Threads + Wait + Sync + Abort>(
+    rt: &H,
+    side: u8,
+    mask: u32,
+) -> Result<(), Fail> {
+    let alloc = rt.alloc();
+    let mut shelf = MemShelf::of(alloc, &[("p", b"other".as_slice())])?;
+    let mut out = Vec::new(alloc);
+    let status = made(rt, alloc, &command(side, mask, 1), &mut shelf, &mut out);
+    assert!(rt; status == Status::Refused && shelf.get("o").is_none());
+    same_bytes(rt, out.as_slice(), b"refused K4\n");
     Ok(())
 }
 
 #[test]
 fn nothing_is_made_of_what_is_no_pattern(rt: HostRuntime) -> Result<(), Fail> {
-    let alloc = rt.alloc();
-    let workers = Workers::new(&rt, alloc, 1, &OpenGate);
     let cases: [(u8, u32); 6] = [(2, 1), (6, 2), (2, 0), (2, 16), (0, 2), (5, 254)];
     for (side, mask) in cases {
-        let mut shelf = MemShelf::of(alloc, &[("p", b"other".as_slice())])?;
-        let mut out = Vec::new(alloc);
-        let mut reader = b"".as_slice();
-        let command = MakeTable {
-            side,
-            mask,
-            out: "o",
-            replace: false,
-            workers: 1,
-        };
-        let mut io = io_over(&mut shelf, &mut reader, &mut out);
-        let status = run_make_table(&command, &workers, &mut io);
-        assert!(rt; status == Status::Refused);
-        assert!(rt; out.as_slice() == b"refused K4\n".as_slice());
-        assert!(rt; shelf.get("o").is_none());
+        expect_no_pattern(&rt, side, mask)?;
     }
     Ok(())
 }

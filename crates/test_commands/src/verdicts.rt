@@ -1,12 +1,16 @@
 //! Worked examples: puzzle texts and table files, the verdicts on them and the bytes that tell these.
 
+use crate::bytes::put_often;
+use crate::same::{same, same_bytes};
 use crate::sha256;
-use crate::telling::{io_over, joined, tells};
+use crate::telling::{expect_tells, io_over, joined};
 use byte_io::memory::MemShelf;
 use pdb_request::Replay;
 use pdb_run::Status;
-use pdb_verdict::{Fault, Inputs, digests, line, report, run_replay, verify, verify_puzzle};
-use std::alloc::Global;
+use pdb_verdict::{
+    Fault, Inputs, Verdict, digests, line, report, run_replay, verify, verify_puzzle,
+};
+use std::alloc::AllocGlobal;
 use std::io;
 use std::process::Abort;
 use std::sync::Wait;
@@ -19,67 +23,81 @@ use test_samples::files::{
 use test_streams::{Failing, SampleWriter};
 use work_run::OpenGate;
 
+/// Ends the test where a puzzle text has other lines.
+fn expect_lines<H: AllocGlobal + Threads + Wait + Abort>(rt: &H, puzzle: &[u8], lines: &[u8]) {
+    expect_tells(rt, &Inputs::Replay { puzzle }, lines);
+    let mut out = Vec::new(rt.alloc());
+    assert!(rt; line(&verify_puzzle(puzzle), &mut out).is_ok());
+    same_bytes(rt, out.as_slice(), lines);
+}
+
+/// Puzzle texts, and their lines.
+const PUZZLES: [(&[u8], &[u8]); 13] = [
+    (b"3 2 1 0 ; ULDRUL\n", b"solution 6\n"),
+    (b"0 1 2 3 ;", b"solution 0\n"),
+    (b"", b"refused P1\n"),
+    (b"1 0 2 3 ; U", b"refused M2 at step 0\n"),
+    (b"1 0 2 3 ; L", b"solution 1\n"),
+    (b"1 0 2 3 ;", b"refused M4\n"),
+    (b"0 1 2 3 ;u", b"refused M1 at byte 0\n"),
+    (b"0 1 2 2 ;", b"refused B5 at number 3\n"),
+    (b"0 1 2 3 4 ;", b"refused B3 count 5\n"),
+    (b"0 1 2 4 ;", b"refused B4 at number 3\n"),
+    (b"0 1 2 x ;u", b"refused B1 at byte 6\n"),
+    (b"0 1 002 3 ;", b"refused B2 at byte 4\n"),
+    (b"0 1 2 3 ;;", b"refused M1 at byte 0\n"),
+];
+
 #[test]
 fn puzzle_texts_have_their_lines(rt: HostRuntime) -> Result<(), Fail> {
-    let alloc = rt.alloc();
-    let cases: [(&[u8], &[u8]); 13] = [
-        (b"3 2 1 0 ; ULDRUL\n", b"solution 6\n"),
-        (b"0 1 2 3 ;", b"solution 0\n"),
-        (b"", b"refused P1\n"),
-        (b"1 0 2 3 ; U", b"refused M2 at step 0\n"),
-        (b"1 0 2 3 ; L", b"solution 1\n"),
-        (b"1 0 2 3 ;", b"refused M4\n"),
-        (b"0 1 2 3 ;u", b"refused M1 at byte 0\n"),
-        (b"0 1 2 2 ;", b"refused B5 at number 3\n"),
-        (b"0 1 2 3 4 ;", b"refused B3 count 5\n"),
-        (b"0 1 2 4 ;", b"refused B4 at number 3\n"),
-        (b"0 1 2 x ;u", b"refused B1 at byte 6\n"),
-        (b"0 1 002 3 ;", b"refused B2 at byte 4\n"),
-        (b"0 1 2 3 ;;", b"refused M1 at byte 0\n"),
-    ];
-    for (puzzle, lines) in cases {
-        assert!(rt; tells(&rt, alloc, &Inputs::Replay { puzzle }, lines)?);
-        let mut out = Vec::new(alloc);
-        assert!(rt; line(&verify_puzzle(puzzle), &mut out).is_ok());
-        assert!(rt; out.as_slice() == lines);
+    for (puzzle, lines) in PUZZLES {
+        expect_lines(&rt, puzzle, lines);
     }
     Ok(())
+}
+
+/// A solution of a thousand moves.
+fn thousand_moves<R: AllocGlobal>(rt: &R) -> Result<Vec<u8>, Fail> {
+    let mut puzzle = b"0 1 2 3 ;".to_vec(rt.alloc())?;
+    put_often(&mut puzzle, 500, b"RL")?;
+    Ok(puzzle)
 }
 
 #[test]
 fn a_thousand_moves_are_a_solution_and_one_more_is_not(rt: HostRuntime) -> Result<(), Fail> {
-    let alloc = rt.alloc();
-    let mut puzzle = b"0 1 2 3 ;".to_vec(alloc)?;
-    for _ in 0..500usize {
-        puzzle.extend_from_slice(b"RL")?;
-    }
-    let mut out = Vec::new(alloc);
+    let mut puzzle = thousand_moves(&rt)?;
+    let mut out = Vec::new(rt.alloc());
     assert!(rt; line(&verify_puzzle(puzzle.as_slice()), &mut out).is_ok());
     puzzle.push(b'R')?;
     assert!(rt; line(&verify_puzzle(puzzle.as_slice()), &mut out).is_ok());
-    assert!(rt; out.as_slice() == b"solution 1000\nrefused M3\n".as_slice());
+    same_bytes(&rt, out.as_slice(), b"solution 1000\nrefused M3\n");
+    Ok(())
+}
+
+/// A table file, the line of its digest, and the line behind that.
+type Table<'a> = (&'a [u8], &'a [u8], &'a [u8]);
+
+/// Ends the test where a table file hasn't its digest, and behind it its line.
+fn expect_table<H: AllocGlobal + Threads + Wait + Abort>(
+    rt: &H,
+    (table, digest, line): Table<'_>,
+) -> Result<(), Fail> {
+    let inputs = Inputs::Table { table };
+    let lines = joined(rt.alloc(), &[digest, line])?;
+    expect_tells(rt, &inputs, lines.as_slice());
+    let mut out = Vec::new(rt.alloc());
+    assert!(rt; digests(&inputs, &mut out).is_ok());
+    same_bytes(rt, out.as_slice(), digest);
     Ok(())
 }
 
 /// Checks that each of these table files has its digest, and behind it its line.
-fn check_tables<H: Threads + Wait + Abort>(
+fn check_tables<H: AllocGlobal + Threads + Wait + Abort>(
     rt: &H,
-    alloc: Global,
-    cases: &[(&[u8], &[u8], &[u8])],
+    cases: &[Table<'_>],
 ) -> Result<(), Fail> {
-    for (table, digest, line) in cases {
-        let inputs = Inputs::Table { table };
-        assert!(rt;
-            tells(
-                rt,
-                alloc,
-                &inputs,
-                joined(alloc, &[digest, line])?.as_slice()
-            )?
-        );
-        let mut out = Vec::new(alloc);
-        assert!(rt; digests(&inputs, &mut out).is_ok());
-        assert!(rt; out.as_slice() == *digest);
+    for case in cases {
+        expect_table(rt, *case)?;
     }
     Ok(())
 }
@@ -88,7 +106,6 @@ fn check_tables<H: Threads + Wait + Abort>(
 fn exact_tables_have_their_lines(rt: HostRuntime) -> Result<(), Fail> {
     check_tables(
         &rt,
-        rt.alloc(),
         &[
             (
                 &TILES_123,
@@ -108,7 +125,6 @@ fn exact_tables_have_their_lines(rt: HostRuntime) -> Result<(), Fail> {
 fn bad_entries_have_their_lines(rt: HostRuntime) -> Result<(), Fail> {
     check_tables(
         &rt,
-        rt.alloc(),
         &[
             (
                 &with_byte(&TILES_123, 34, 0x02),
@@ -133,7 +149,6 @@ fn bad_entries_have_their_lines(rt: HostRuntime) -> Result<(), Fail> {
 fn files_of_another_length_have_their_lines(rt: HostRuntime) -> Result<(), Fail> {
     check_tables(
         &rt,
-        rt.alloc(),
         &[
             (&TILES_123[..43], sha256::OF_CUT, b"refused T6\n"),
             (
@@ -156,42 +171,53 @@ fn files_of_another_length_have_their_lines(rt: HostRuntime) -> Result<(), Fail>
     )
 }
 
+/// What is told of a table file of the bytes `abc`.
+const TOLD: &[u8] =
+    b"sha256 ba7816bf8f01cfea414140de5dae2223b00361a396177a9cb410ff61f20015ad\nrefused T1\n";
+
+/// Ends the test where a writer that fails so at a byte hasn't the lines before it, or the failure isn't told.
+fn expect_front<R: AllocGlobal + Abort>(
+    rt: &R,
+    answer: &Result<Verdict, Fault>,
+    how: Failing,
+    fails_from: usize,
+) {
+    let mut out = SampleWriter::new(rt.alloc())
+        .failing(fails_from as u64, u64::MAX, how)
+        .byte_by_byte_from(0);
+    let written = report(&Inputs::Table { table: b"abc" }, answer, &mut out);
+    same(rt, &written.is_ok(), &(fails_from == TOLD.len()));
+    same(rt, &Some(out.taken()), &TOLD.get(..fails_from));
+}
+
 #[test]
 fn a_write_that_fails_leaves_a_front(rt: HostRuntime) -> Result<(), Fail> {
-    let alloc = rt.alloc();
     let inputs = Inputs::Table { table: b"abc" };
-    let answer = verify(&rt, alloc, &inputs, 1, &OpenGate);
-    let lines =
-        b"sha256 ba7816bf8f01cfea414140de5dae2223b00361a396177a9cb410ff61f20015ad\nrefused T1\n".as_slice();
-    for how in [
-        Failing::ByError(io::ErrorKind::Other),
-        Failing::ByTakingNothing,
-    ] {
-        for fails_from in 0..=lines.len() {
-            let mut out = SampleWriter::new(alloc)
-                .failing(fails_from as u64, u64::MAX, how)
-                .byte_by_byte_from(0);
-            let written = report(&inputs, &answer, &mut out);
-            assert_eq!(rt; written.is_ok(), fails_from == lines.len());
-            assert!(rt; out.taken() == &lines[..fails_from]);
-        }
+    let answer = verify(&rt, rt.alloc(), &inputs, 1, &OpenGate);
+    for fails_from in 0..=TOLD.len() {
+        expect_front(
+            &rt,
+            &answer,
+            Failing::ByError(io::ErrorKind::Other),
+            fails_from,
+        );
+        expect_front(&rt, &answer, Failing::ByTakingNothing, fails_from);
     }
     Ok(())
 }
 
 #[test]
 fn two_workers_check_two_blocks_side_by_side(rt: HostRuntime) -> Result<(), Fail> {
-    let alloc = rt.alloc();
-    let mut file = TWO_BLOCKS.to_vec(alloc)?;
+    let mut file = TWO_BLOCKS.to_vec(rt.alloc())?;
     file.resize(2_036, 0xFF)?;
     let inputs = Inputs::Table {
         table: file.as_slice(),
     };
     let gate = HoldingGate::new(&[0], &[1]);
-    let answer = verify(&rt, alloc, &inputs, 2, &gate);
-    let mut out = Vec::new(alloc);
+    let answer = verify(&rt, rt.alloc(), &inputs, 2, &gate);
+    let mut out = Vec::new(rt.alloc());
     assert!(rt; line(&answer, &mut out).is_ok() && gate.saw_all());
-    assert!(rt; out.as_slice() == b"refused T7 at entry 1\n".as_slice());
+    same_bytes(&rt, out.as_slice(), b"refused T7 at entry 1\n");
     Ok(())
 }
 
@@ -202,18 +228,17 @@ fn makers_that_give_up_have_their_lines(rt: HostRuntime) -> Result<(), Fail> {
     for fault in faults {
         assert!(rt; line(&Err(fault), &mut out).is_ok());
     }
-    let lines = b"refused K1\nrefused K2\nrefused K3\nrefused K4\nrefused K5\n".as_slice();
-    assert!(rt; out.as_slice() == lines);
+    let lines = b"refused K1\nrefused K2\nrefused K3\nrefused K4\nrefused K5\n";
+    same_bytes(&rt, out.as_slice(), lines);
     Ok(())
 }
 
 #[test]
 fn want_of_memory_stands_alone(rt: HostRuntime) -> Result<(), Fail> {
-    let alloc = rt.alloc();
-    let mut out = Vec::new(alloc);
+    let mut out = Vec::new(rt.alloc());
     let inputs = Inputs::Table { table: b"abc" };
     assert!(rt; report(&inputs, &Err(Fault::Memory), &mut out).is_ok());
-    assert!(rt; out.as_slice() == b"no memory\n".as_slice());
+    same_bytes(&rt, out.as_slice(), b"no memory\n");
     Ok(())
 }
 
@@ -233,6 +258,6 @@ fn a_replay_runs_without_threads(rt: HostRuntime) -> Result<(), Fail> {
     );
     let unnamed = run_replay(alloc, Replay { puzzle: None }, &mut io);
     assert!(rt; named == Status::Yes && unnamed == Status::Refused);
-    assert!(rt; out.as_slice() == b"solution 1\nrefused M2 at step 0\n".as_slice());
+    same_bytes(&rt, out.as_slice(), b"solution 1\nrefused M2 at step 0\n");
     Ok(())
 }

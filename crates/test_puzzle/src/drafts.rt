@@ -1,6 +1,7 @@
 //! Drafts that are made.
 
 use crate::given::{checked, draft, moves_of};
+use crate::same::{same, same_for};
 use move_strings::{Draft, Step};
 use std::alloc::AllocGlobal;
 use std::process::Abort;
@@ -21,20 +22,23 @@ fn has<R: AllocGlobal + Abort>(rt: &R, draft: &Draft, string: &[u8], witness: &[
         .any(|entry| entry.string == string && entry.witness == witness)
 }
 
+/// How many moves the longest strings have, how many strings are found, and how many states.
+const COUNTS: [(u8, usize, usize); 5] = [
+    (0, 0, 1),
+    (1, 0, 1),
+    (2, 4, 5),
+    (8, 40, 161),
+    (12, 2540, 9223),
+];
+
 #[test]
 fn as_many_strings_and_states_are_found_as_there_are(rt: HostRuntime) {
-    let counts_of: [(u8, usize, usize); 5] = [
-        (0, 0, 1),
-        (1, 0, 1),
-        (2, 4, 5),
-        (8, 40, 161),
-        (12, 2540, 9223),
-    ];
-    for (longest, strings, states) in counts_of {
-        assert_eq!(rt;
-            counts(&draft(&rt, longest)),
-            (strings, states),
-            "{longest}"
+    for (longest, strings, states) in COUNTS {
+        same_for(
+            &rt,
+            &counts(&draft(&rt, longest)),
+            &(strings, states),
+            &longest,
         );
     }
 }
@@ -68,7 +72,7 @@ fn drafts_are_right_on_each_side(rt: HostRuntime) {
 #[test]
 fn there_are_four_steps_for_each_state(rt: HostRuntime) {
     let draft = draft(&rt, 8);
-    assert_eq!(rt; draft.steps.len(), 4 * 161);
+    same(&rt, &draft.steps.len(), &(4 * 161));
     let left_out = draft.steps.as_slice().iter().filter(|step| match step {
         Step::LeftOut(_) => true,
         Step::To(_) => false,

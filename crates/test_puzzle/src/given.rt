@@ -1,10 +1,22 @@
-//! Sides, strings, drafts and automata, where there is memory for them.
+//! Claims, sides, strings, drafts and automata, where there is memory for them.
 
+ghost use Rattle.std.specs.Prelude.{All};
+ghost use Rattle.claim_text.specs.Lines.{HasFewLetters};
+ghost use Rattle.claim_text.specs.Shown.{claim_shown};
+
+use claim_text::{Claim, read_claims};
 use move_strings::{Automaton, Draft};
 use puz_board::{Move, Side};
 use std::alloc::AllocGlobal;
 use std::process::Abort;
 use string_make::draft_of;
+
+/// The claims of a text.
+pub(crate) fn claims_of<'a, R: AllocGlobal + Abort>(rt: &R, text: &'a [u8]) -> Vec<Claim<'a>>
+    ensures { All (λ claim. HasFewLetters (claim_shown claim)) result.items }
+{
+    read_claims(rt.alloc(), text).ok().expect(rt, "claims")
+}
 
 /// The side of a board with so many cells in a row.
 pub(crate) fn side_of(rt: &impl Abort, n: u8) -> Side {

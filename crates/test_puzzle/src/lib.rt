@@ -18,6 +18,8 @@ mod parity;
 #[cfg(test)]
 mod placements;
 #[cfg(test)]
+mod same;
+#[cfg(test)]
 mod texts;
 #[cfg(test)]
 mod walks;

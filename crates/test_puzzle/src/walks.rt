@@ -3,6 +3,7 @@
 ghost use Rattle.move_strings.specs.Automata.{IsState};
 
 use crate::given::{checked, draft, moves_of, side_of};
+use crate::same::{same, same_for};
 use move_strings::Automaton;
 use puz_board::{MOVES, Move};
 use std::alloc::AllocGlobal;
@@ -41,13 +42,13 @@ fn has_reversal(moves: &[Move]) -> bool {
 
 #[test]
 fn a_forbidden_string_is_not_completed(rt: HostRuntime) {
-    assert_eq!(rt; read_of(&rt, 2, b"UURDDL"), 6);
-    assert_eq!(rt; read_of(&rt, 2, b"UURLD"), 3);
+    same(&rt, &read_of(&rt, 2, b"UURDDL"), &6);
+    same(&rt, &read_of(&rt, 2, b"UURLD"), &3);
     // Six moves round a square, and the six that come before them.
-    assert_eq!(rt; read_of(&rt, 2, b"RDLURD"), 6);
-    assert_eq!(rt; read_of(&rt, 8, b"RDLURD"), 5);
-    assert_eq!(rt; read_of(&rt, 8, b"DRULDR"), 6);
-    assert_eq!(rt; read_of(&rt, 8, b"UURDLURD"), 7);
+    same(&rt, &read_of(&rt, 2, b"RDLURD"), &6);
+    same(&rt, &read_of(&rt, 8, b"RDLURD"), &5);
+    same(&rt, &read_of(&rt, 8, b"DRULDR"), &6);
+    same(&rt, &read_of(&rt, 8, b"UURDLURD"), &7);
 }
 
 #[test]
@@ -58,7 +59,7 @@ fn the_automaton_of_reversals_leaves_out_reversals_alone(rt: HostRuntime) {
             for third in MOVES.iter() {
                 let moves = [*first, *second, *third];
                 let is_read = read(&automaton, &moves) == 3;
-                assert_eq!(rt; is_read, !has_reversal(&moves), "{moves:?}");
+                same_for(&rt, &is_read, &(!has_reversal(&moves)), &moves);
             }
         }
     }

@@ -1,9 +1,11 @@
 //! `bound` and `optimal` over a shelf of known files.
 
-use crate::runs::{Ended, ran_by};
+use crate::runs::{Ended, push_digest, push_words, ran_by};
+use crate::same::holds_for;
 use byte_io::memory::MemShelf;
 use pdb_program::RunHost;
 use std::alloc::{AllocError, Global};
+use std::process::Abort;
 use std::sync::Wait;
 use std::test::Fail;
 use std::thread::Threads;
@@ -134,12 +136,8 @@ fn checked_by<'w, H: Threads + Wait + Sync, G: Gate + Sync>(
     gate: &G,
 ) -> Result<Ended, AllocError> {
     let mut all = Vec::new(alloc);
-    for word in words.split(' ') {
-        all.push(word)?;
-    }
-    for flag in flags.split(' ') {
-        all.push(flag)?;
-    }
+    push_words(&mut all, words)?;
+    push_words(&mut all, flags)?;
     let mut shelf = MemShelf::of(alloc, &FILES)?;
     let mut reader = b"".as_slice();
     let host = RunHost { rt, alloc, gate };
@@ -150,9 +148,7 @@ fn checked_by<'w, H: Threads + Wait + Sync, G: Gate + Sync>(
 fn lines(alloc: Global, words: &str, line: &str) -> Result<String, AllocError> {
     let mut all = String::new(alloc);
     for table in words.split(' ').skip(4) {
-        all.push_str("sha256 ")?;
-        all.push_str(digest_of(table))?;
-        all.push_str("\n")?;
+        push_digest(&mut all, digest_of(table))?;
     }
     let log = words.split(' ').nth(3).unwrap_or("");
     format!(in alloc; "{all}sha256 {}\n{line}\n", digest_of(log))
@@ -166,6 +162,18 @@ struct Case<'a> {
     status: u8,
 }
 
+/// A run of these words and flags says these lines, with this status.
+fn expect<H: Threads + Wait + Sync>(
+    rt: &H,
+    alloc: Global,
+    words: &str,
+    flags: &str,
+    want: (&[u8], u8),
+) -> Result<(), Fail> {
+    let (lines, status) = want;
+    checked_by(rt, alloc, words, flags, &OpenGate)?.expect(lines, status)
+}
+
 /// A run says what its case has, whichever of these flags it has.
 fn expect_by<H: Threads + Wait + Sync>(
     rt: &H,
@@ -173,10 +181,10 @@ fn expect_by<H: Threads + Wait + Sync>(
     case: &Case<'_>,
     flags: &[&str],
 ) -> Result<(), Fail> {
-    let want = lines(alloc, case.words, case.line)?;
+    let lines = lines(alloc, case.words, case.line)?;
+    let want = (lines.as_bytes(), case.status);
     for flag in flags {
-        let ended = checked_by(rt, alloc, case.words, flag, &OpenGate)?;
-        ended.expect(want.as_bytes(), case.status)?;
+        expect(rt, alloc, case.words, flag, want)?;
     }
     Ok(())
 }
@@ -244,6 +252,43 @@ fn a_folded_table_bounds_some_boards_less(rt: HostRuntime) -> Result<(), Fail> {
     expect_by(&rt, rt.alloc(), &folded, &FOLDED)
 }
 
+/// A run, and a second one where memory was wanted before the first began.
+fn ran_at_last<H: Threads + Wait + Sync>(
+    rt: &H,
+    alloc: Global,
+    words: &str,
+    flags: &str,
+) -> Result<Ended, AllocError> {
+    match checked_by(rt, alloc, words, flags, &OpenGate) {
+        Ok(ended) => Ok(ended),
+        Err(_) => checked_by(rt, alloc, words, flags, &OpenGate),
+    }
+}
+
+/// The lines, made a second time where memory was wanted the first time.
+fn lines_at_last(alloc: Global, words: &str, line: &str) -> Result<String, AllocError> {
+    match lines(alloc, words, line) {
+        Ok(all) => Ok(all),
+        Err(_) => lines(alloc, words, line),
+    }
+}
+
+/// A run says its lines; or that there is no memory, alone, and the next one says them.
+fn expect_or_no_memory<H: Threads + Wait + Sync>(
+    rt: &H,
+    alloc: Global,
+    words: &str,
+    flags: &str,
+    want: &[u8],
+) -> Result<(), Fail> {
+    let ended = ran_at_last(rt, alloc, words, flags)?;
+    if ended.status != 3 {
+        return ended.expect(want, 0);
+    }
+    ended.expect(b"no memory\n", 3)?;
+    expect(rt, alloc, words, flags, (want, 0))
+}
+
 // Run with each allocation refused in turn.
 #[test]
 fn want_of_memory_stands_alone_where_tables_are_folded(rt: HostRuntime) -> Result<(), Fail> {
@@ -255,14 +300,8 @@ fn want_of_memory_stands_alone_where_tables_are_folded(rt: HostRuntime) -> Resul
     ];
     for (words, line) in cases {
         for flags in ["--fold", "--fold --workers=2"] {
-            let run = || checked_by(&rt, alloc, words, flags, &OpenGate);
-            let want = lines(alloc, words, line).or_else(|_| lines(alloc, words, line))?;
-            let mut ended = run().or_else(|_| run())?;
-            if ended.status == 3 {
-                ended.expect(b"no memory\n", 3)?;
-                ended = run()?;
-            }
-            ended.expect(want.as_bytes(), 0)?;
+            let want = lines_at_last(alloc, words, line)?;
+            expect_or_no_memory(&rt, alloc, words, flags, want.as_bytes())?;
         }
     }
     Ok(())
@@ -383,10 +422,24 @@ fn inputs_that_can_not_be_read_are_named(rt: HostRuntime) -> Result<(), Fail> {
     ];
     for (words, line) in cases {
         for flags in ["--workers=2", "--fold"] {
-            let ended = checked_by(&rt, rt.alloc(), words, flags, &OpenGate)?;
-            ended.expect(line.as_bytes(), 2)?;
+            expect(&rt, rt.alloc(), words, flags, (line.as_bytes(), 2))?;
         }
     }
+    Ok(())
+}
+
+/// Two workers are in two lemmas' jobs at once, and the run says this line.
+fn expect_side_by_side<H: Threads + Wait + Sync + Abort>(
+    rt: &H,
+    alloc: Global,
+    words: &str,
+    line: &str,
+) -> Result<(), Fail> {
+    // The first job of all is the table's.
+    let gate = HoldingGate::new(&[0], &[1]).among(1..u64::MAX);
+    let want = lines(alloc, words, line)?;
+    checked_by(rt, alloc, words, "--workers=2", &gate)?.expect(want.as_bytes(), 0)?;
+    holds_for(rt, gate.saw_all(), &("one worker alone", words));
     Ok(())
 }
 
@@ -397,11 +450,7 @@ fn two_workers_check_lemmas_side_by_side(rt: HostRuntime) -> Result<(), Fail> {
         ("optimal six_moves one_set citation f12", "optimal 6"),
     ];
     for (words, line) in cases {
-        // The first job of all is the table's.
-        let gate = HoldingGate::new(&[0], &[1]).among(1..u64::MAX);
-        let want = lines(rt.alloc(), words, line)?;
-        checked_by(&rt, rt.alloc(), words, "--workers=2", &gate)?.expect(want.as_bytes(), 0)?;
-        assert!(rt; gate.saw_all(), "one worker alone: {words}");
+        expect_side_by_side(&rt, rt.alloc(), words, line)?;
     }
     Ok(())
 }

@@ -1,9 +1,11 @@
 //! Runs over the shelf of the system's files, whose calls fail or stop, one after the other.
 
 use crate::runs::{Ended, ran};
+use crate::same::{holds_for, same};
 use byte_io::disk::DiskShelf;
 use byte_io::shelf::Shelf;
 use std::alloc::{AllocError, Global};
+use std::process::Abort;
 use std::sync::Wait;
 use std::test::Fail;
 use std::thread::Threads;
@@ -113,6 +115,28 @@ struct Whole {
     kept: Option<Vec<u8>>,
 }
 
+/// What stands under the name that a task keeps under.
+fn kept(alloc: Global, task: &Task<'_>, files: &SampleFiles) -> Result<Option<Vec<u8>>, Fail> {
+    let Some(name) = task.keeps else {
+        return Ok(None);
+    };
+    Ok(Some(DiskShelf::new(files).load(alloc, name, 1000)?))
+}
+
+/// A run of a task that ended well, with its line last.
+fn ran_well<H: Threads + Wait + Sync>(
+    rt: &H,
+    alloc: Global,
+    task: &Task<'_>,
+    files: &SampleFiles,
+) -> Result<Ended, Fail> {
+    let ended = ran_over(rt, alloc, task.words, files)?;
+    if ended.status != 0 || !ended.out.ends_with(task.line) {
+        ended.expect(task.line, 0)?;
+    }
+    Ok(ended)
+}
+
 /// The run of a task in which nothing fails, which says its line.
 fn ran_whole<H: Threads + Wait + Sync>(
     rt: &H,
@@ -120,15 +144,9 @@ fn ran_whole<H: Threads + Wait + Sync>(
     task: &Task<'_>,
 ) -> Result<Whole, Fail> {
     let files = SampleFiles::new(alloc, &FILES)?;
-    let ended = ran_over(rt, alloc, task.words, &files)?;
-    if ended.status != 0 || !ended.out.ends_with(task.line) {
-        ended.expect(task.line, 0)?;
-    }
+    let ended = ran_well(rt, alloc, task, &files)?;
     let calls = files.calls()?;
-    let kept = match task.keeps {
-        Some(name) => Some(DiskShelf::new(&files).load(alloc, name, 1000)?),
-        None => None,
-    };
+    let kept = kept(alloc, task, &files)?;
     Ok(Whole { ended, calls, kept })
 }
 
@@ -182,30 +200,103 @@ fn expect_whole(
     }
 }
 
+/// The files, whose calls fail from this one on and before that one.
+fn failing_files(alloc: Global, from: u64, to: u64) -> Result<SampleFiles, AllocError> {
+    let files = SampleFiles::new(alloc, &FILES)?;
+    files.fail(from, to);
+    Ok(files)
+}
+
+/// What is said alone where the call of this number fails, unless that is the removal of what was made for the trial of the name:
+/// it is removed at the second try.
+fn fault_alone_at(
+    alloc: Global,
+    task: &Task<'_>,
+    calls: &[Call],
+    at: usize,
+) -> Result<Option<String>, AllocError> {
+    if calls.get(at) == Some(&Call::Remove) {
+        return Ok(None);
+    }
+    fault_at(alloc, task, calls, at)
+}
+
+/// A run ended with this fault alone, and the files are as before.
+fn expect_fault<R: Abort>(
+    rt: &R,
+    ended: &Ended,
+    files: &SampleFiles,
+    fault: &str,
+) -> Result<(), Fail> {
+    ended.expect(fault.as_bytes(), 2)?;
+    holds_for(rt, are_as_before(files), &fault);
+    same(rt, &files.count(), &FILES.len());
+    Ok(())
+}
+
+/// The call of this number fails: that is told alone, or the run ends as the whole one.
+fn expect_with_one_fault<H: Threads + Wait + Sync + Abort>(
+    rt: &H,
+    alloc: Global,
+    task: &Task<'_>,
+    whole: &Whole,
+    at: usize,
+) -> Result<(), Fail> {
+    let files = failing_files(alloc, at as u64, (at as u64).saturating_add(1))?;
+    let ended = ran_over(rt, alloc, task.words, &files)?;
+    match fault_alone_at(alloc, task, &whole.calls, at)? {
+        Some(fault) => expect_fault(rt, &ended, &files, fault.as_str()),
+        None => expect_whole(task, whole, &ended, &files, 0),
+    }
+}
+
 #[test]
 fn a_call_that_fails_is_told_alone_and_leaves_the_files(rt: HostRuntime) -> Result<(), Fail> {
     let alloc = rt.alloc();
     for task in &TASKS {
         let whole = ran_whole(&rt, alloc, task)?;
         for at in 0..whole.calls.len() {
-            let files = SampleFiles::new(alloc, &FILES)?;
-            files.fail(at as u64, at as u64 + 1);
-            let ended = ran_over(&rt, alloc, task.words, &files)?;
-            // What was made for the trial of the name is removed at the second try.
-            if whole.calls.get(at) == Some(&Call::Remove) {
-                expect_whole(task, &whole, &ended, &files, 0)?;
-                continue;
-            }
-            let Some(fault) = fault_at(alloc, task, &whole.calls, at)? else {
-                expect_whole(task, &whole, &ended, &files, 0)?;
-                continue;
-            };
-            ended.expect(fault.as_bytes(), 2)?;
-            assert!(rt; are_as_before(&files), "{fault}");
-            assert_eq!(rt; files.count(), FILES.len());
+            expect_with_one_fault(&rt, alloc, task, &whole, at)?;
         }
     }
     Ok(())
+}
+
+/// The fault that is told alone where all calls from this number on fail: that of the first which asks for more than a look.
+fn told_from(
+    alloc: Global,
+    task: &Task<'_>,
+    calls: &[Call],
+    at: usize,
+) -> Result<String, AllocError> {
+    let told = (at..calls.len()).find(|at| calls.get(*at) != Some(&Call::Look));
+    let fault = fault_at(alloc, task, calls, told.unwrap_or(at))?;
+    Ok(fault.unwrap_or(String::new(alloc)))
+}
+
+/// The files are as before beside one more name at most that was left over: how many were.
+fn left_over<R: Abort>(rt: &R, files: &SampleFiles, at: usize) -> usize {
+    holds_for(rt, are_as_before(files), &("as before, call", at));
+    let left_over = files.count().saturating_sub(FILES.len());
+    holds_for(rt, left_over <= 1, &("left over, call", at));
+    left_over
+}
+
+/// All calls from this number on fail: that is told alone, and the next run ends as the whole one.
+fn expect_stopped<H: Threads + Wait + Sync + Abort>(
+    rt: &H,
+    alloc: Global,
+    task: &Task<'_>,
+    whole: &Whole,
+    at: usize,
+) -> Result<(), Fail> {
+    let files = failing_files(alloc, at as u64, u64::MAX)?;
+    let fault = told_from(alloc, task, &whole.calls, at)?;
+    ran_over(rt, alloc, task.words, &files)?.expect(fault.as_bytes(), 2)?;
+    let left_over = left_over(rt, &files, at);
+    files.fail(0, 0);
+    let ended = ran_over(rt, alloc, task.words, &files)?;
+    expect_whole(task, whole, &ended, &files, left_over)
 }
 
 #[test]
@@ -216,18 +307,7 @@ fn a_system_that_stops_leaves_the_files_and_the_next_run_ends_well(
     for task in &TASKS {
         let whole = ran_whole(&rt, alloc, task)?;
         for at in 0..whole.calls.len() {
-            let files = SampleFiles::new(alloc, &FILES)?;
-            files.fail(at as u64, u64::MAX);
-            let ended = ran_over(&rt, alloc, task.words, &files)?;
-            let told = (at..whole.calls.len()).find(|at| whole.calls.get(*at) != Some(&Call::Look));
-            let fault = fault_at(alloc, task, &whole.calls, told.unwrap_or(at))?;
-            ended.expect(fault.as_deref().unwrap_or("").as_bytes(), 2)?;
-            assert!(rt; are_as_before(&files), "call {at}");
-            let left_over = files.count().saturating_sub(FILES.len());
-            assert!(rt; left_over <= 1, "call {at}");
-            files.fail(0, 0);
-            let ended = ran_over(&rt, alloc, task.words, &files)?;
-            expect_whole(task, &whole, &ended, &files, left_over)?;
+            expect_stopped(&rt, alloc, task, &whole, at)?;
         }
     }
     Ok(())

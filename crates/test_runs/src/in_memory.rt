@@ -1,9 +1,11 @@
 //! Runs in memory, by the function whose contract supposes nothing of shelf and streams.
 
-use crate::runs::owned;
+use crate::runs::{owned, push_digest, push_words};
+use crate::same::{holds_for, same};
 use byte_io::memory::MemShelf;
 use pdb_program::{MemoryRun, run_in_memory};
 use std::alloc::{AllocError, Global};
+use std::process::Abort;
 use std::sync::Wait;
 use std::test::Fail;
 use std::thread::Threads;
@@ -37,9 +39,7 @@ fn ran_on<H: Threads + Wait + Sync>(
     input: &[u8],
 ) -> Result<MemoryRun, AllocError> {
     let mut all = Vec::new(alloc);
-    for word in words.split(' ') {
-        all.push(word)?;
-    }
+    push_words(&mut all, words)?;
     let files = MemShelf::of(alloc, &FILES)?;
     let words = owned(alloc, all.as_slice())?;
     Ok(run_in_memory(rt, alloc, words, files, input))
@@ -49,9 +49,7 @@ fn ran_on<H: Threads + Wait + Sync>(
 fn lines(alloc: Global, digests: &[&str], last: &str) -> Result<String, AllocError> {
     let mut all = String::new(alloc);
     for digest in digests {
-        all.push_str("sha256 ")?;
-        all.push_str(digest)?;
-        all.push_str("\n")?;
+        push_digest(&mut all, digest)?;
     }
     format!(in alloc; "{all}{last}\n")
 }
@@ -67,67 +65,83 @@ fn expect(run: &MemoryRun, want: &[u8], status: u8) -> Result<(), Fail> {
 /// The words of a run, the digests that it tells, the lines behind them, and its status.
 type Case<'a> = (&'a str, &'a [&'a str], &'a str, u8);
 
+const EXACT: &str = "exact side 2 mask 14 entries 24 unreachable 12 deepest 6";
+
+const CASES: [Case<'static>; 11] = [
+    ("replay six", &[], "solution 6", 0),
+    ("replay board", &[], "refused P1", 1),
+    ("replay", &[], "solution 1", 0),
+    ("replay nothing", &[], "fault read nothing", 2),
+    ("table f123", &[DIGEST_OF_123], EXACT, 0),
+    ("table board", &[DIGEST_OF_BOARD], "refused T1", 1),
+    (
+        "bound board sets leaf f123",
+        &[DIGEST_OF_123, DIGEST_OF_LEAF],
+        "bound 6",
+        0,
+    ),
+    (
+        "optimal six sets leaf f123 --fold",
+        &[DIGEST_OF_123, DIGEST_OF_LEAF],
+        "optimal 6",
+        0,
+    ),
+    (
+        "prove claims sets f123 --workers 2",
+        &[DIGEST_OF_123, DIGEST_OF_CLAIMS],
+        "bound 6 of 3 2 1 0\nrefused O2 by ULDRUL of 3 2 1 0 : 7",
+        1,
+    ),
+    (
+        "parts board 6 1 answers",
+        &[],
+        "bound 6 of 3 2 1 0 from 1 parts",
+        0,
+    ),
+    ("parts board 7 1 answers", &[], "3 2 1 0 : 7 part 0/1", 1),
+];
+
+/// A run with a solution on its input says what its case has.
+fn expect_case<H: Threads + Wait + Sync>(
+    rt: &H,
+    alloc: Global,
+    case: Case<'_>,
+) -> Result<(), Fail> {
+    let (words, digests, last, status) = case;
+    let want = lines(alloc, digests, last)?;
+    let run = ran_on(rt, alloc, words, b"1 0 2 3 ; L")?;
+    expect(&run, want.as_bytes(), status)
+}
+
 #[test]
 fn answers_are_those_over_any_shelf(rt: HostRuntime) -> Result<(), Fail> {
-    let alloc = rt.alloc();
-    let exact = "exact side 2 mask 14 entries 24 unreachable 12 deepest 6";
-    let cases: [Case<'_>; 11] = [
-        ("replay six", &[], "solution 6", 0),
-        ("replay board", &[], "refused P1", 1),
-        ("replay", &[], "solution 1", 0),
-        ("replay nothing", &[], "fault read nothing", 2),
-        ("table f123", &[DIGEST_OF_123], exact, 0),
-        ("table board", &[DIGEST_OF_BOARD], "refused T1", 1),
-        (
-            "bound board sets leaf f123",
-            &[DIGEST_OF_123, DIGEST_OF_LEAF],
-            "bound 6",
-            0,
-        ),
-        (
-            "optimal six sets leaf f123 --fold",
-            &[DIGEST_OF_123, DIGEST_OF_LEAF],
-            "optimal 6",
-            0,
-        ),
-        (
-            "prove claims sets f123 --workers 2",
-            &[DIGEST_OF_123, DIGEST_OF_CLAIMS],
-            "bound 6 of 3 2 1 0\nrefused O2 by ULDRUL of 3 2 1 0 : 7",
-            1,
-        ),
-        (
-            "parts board 6 1 answers",
-            &[],
-            "bound 6 of 3 2 1 0 from 1 parts",
-            0,
-        ),
-        ("parts board 7 1 answers", &[], "3 2 1 0 : 7 part 0/1", 1),
-    ];
-    for (words, digests, last, status) in cases {
-        let want = lines(alloc, digests, last)?;
-        let run = ran_on(&rt, alloc, words, b"1 0 2 3 ; L")?;
-        expect(&run, want.as_bytes(), status)?;
+    for case in CASES {
+        expect_case(&rt, rt.alloc(), case)?;
     }
+    Ok(())
+}
+
+/// The table that is made is told of and kept.
+fn expect_table<H: Threads + Wait + Sync + Abort>(rt: &H, alloc: Global) -> Result<(), Fail> {
+    let want = lines(alloc, &[DIGEST_OF_123], EXACT)?;
+    let made = ran_on(rt, alloc, "make-table 2 14 o", b"")?;
+    expect(&made, want.as_bytes(), 0)?;
+    same(rt, &made.files.get("o"), &Some(TILES_123.as_slice()));
+    Ok(())
+}
+
+/// The log that is searched for is kept.
+fn expect_log<H: Threads + Wait + Sync + Abort>(rt: &H, alloc: Global) -> Result<(), Fail> {
+    let searched = ran_on(rt, alloc, "solve board sets o f123", b"")?;
+    let is_told = searched.output.ends_with(b"optimal 6\n");
+    holds_for(rt, is_told, &("status", searched.status));
+    same(rt, &searched.status, &0);
+    same(rt, &searched.files.get("o").is_some(), &true);
     Ok(())
 }
 
 #[test]
 fn what_was_made_is_among_the_files(rt: HostRuntime) -> Result<(), Fail> {
-    let alloc = rt.alloc();
-    let last = "exact side 2 mask 14 entries 24 unreachable 12 deepest 6";
-    let want = lines(alloc, &[DIGEST_OF_123], last)?;
-    let made = ran_on(&rt, alloc, "make-table 2 14 o", b"")?;
-    expect(&made, want.as_bytes(), 0)?;
-    assert!(rt; made.files.get("o") == Some(TILES_123.as_slice()));
-
-    let searched = ran_on(&rt, alloc, "solve board sets o f123", b"")?;
-    let is_told = searched.output.ends_with(b"optimal 6\n");
-    assert!(rt;
-        searched.status == 0 && is_told,
-        "status {}",
-        searched.status
-    );
-    assert!(rt; searched.files.get("o").is_some());
-    Ok(())
+    expect_table(&rt, rt.alloc())?;
+    expect_log(&rt, rt.alloc())
 }

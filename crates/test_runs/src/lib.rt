@@ -26,6 +26,8 @@ mod replays;
 #[cfg(test)]
 mod runs;
 #[cfg(test)]
+mod same;
+#[cfg(test)]
 mod shelves;
 #[cfg(test)]
 mod starts;

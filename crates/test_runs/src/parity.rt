@@ -1,6 +1,6 @@
 //! `bound` and `optimal` on logs of both versions.
 
-use crate::runs::ran;
+use crate::runs::{Ended, ran};
 use byte_io::memory::MemShelf;
 use std::alloc::{AllocError, Global};
 use std::sync::Wait;
@@ -58,6 +58,17 @@ fn digest_of(name: &str) -> &'static str {
 /// What is said of a log whose first lemma's tree proves nothing.
 const NO_PROOF: &str = "refused L6 at lemma 0";
 
+/// A run of these words over the files here.
+fn ran_on<H: Threads + Wait + Sync>(
+    rt: &H,
+    alloc: Global,
+    words: &[&str; 5],
+) -> Result<Ended, AllocError> {
+    let mut shelf = shelf(alloc)?;
+    let mut reader = b"".as_slice();
+    ran(rt, alloc, words, &mut shelf, &mut reader)
+}
+
 /// A run of these words, the command, its board, its sets, a log and a table, says this line below the digests, with this status.
 fn expect<H: Threads + Wait + Sync>(
     rt: &H,
@@ -66,13 +77,10 @@ fn expect<H: Threads + Wait + Sync>(
     line: &str,
     status: u8,
 ) -> Result<(), Fail> {
-    let mut shelf = shelf(alloc)?;
-    let mut reader = b"".as_slice();
-    let ended = ran(rt, alloc, words, &mut shelf, &mut reader)?;
     let of_table = digest_of(words[4]);
     let of_log = digest_of(words[3]);
     let want = format!(in alloc; "sha256 {of_table}\nsha256 {of_log}\n{line}\n")?;
-    ended.expect(want.as_bytes(), status)
+    ran_on(rt, alloc, words)?.expect(want.as_bytes(), status)
 }
 
 #[test]

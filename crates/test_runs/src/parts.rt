@@ -1,11 +1,13 @@
 //! `parts` over a shelf of known files: parts that are there, left out, twice, cut, of another board, bound or count; what it tells
 //! of lines that it skips; and what `prove` wrote, joined.
 
-use crate::runs::{Ended, owned, ran};
+use crate::runs::{Ended, owned, ran, ran_words};
+use crate::same::{holds_for, same, same_for};
 use byte_io::memory::MemShelf;
 use pdb_program::run;
 use std::alloc::{AllocError, Global};
 use std::io;
+use std::process::Abort;
 use std::sync::Wait;
 use std::test::Fail;
 use std::thread::Threads;
@@ -54,17 +56,14 @@ fn ran_on<H: Threads + Wait + Sync>(
     words: &str,
     input: &[u8],
 ) -> Result<Ended, AllocError> {
-    let mut all = Vec::new(alloc);
-    for word in words.split(' ') {
-        all.push(word)?;
-    }
     let mut shelf = MemShelf::of(alloc, &FILES)?;
-    let mut reader = input;
-    ran(rt, alloc, all.as_slice(), &mut shelf, &mut reader)
+    ran_words(rt, alloc, words, &mut shelf, input)
 }
 
 /// Words of runs, what these say, of how many lines they tell on their errors that these are skipped, and their statuses.
-const RUNS: [(&str, &[u8], &str, u8); 22] = [
+type Case<'a> = (&'a str, &'a [u8], &'a str, u8);
+
+const RUNS: [Case<'static>; 22] = [
     (
         "parts board 6 3 all",
         b"bound 6 of 3 2 1 0 from 3 parts\n",
@@ -184,12 +183,22 @@ fn told_of_skipped(alloc: Global, numbers: &str) -> Result<String, AllocError> {
     )
 }
 
+/// A run says what its case has.
+fn expect_case<H: Threads + Wait + Sync>(
+    rt: &H,
+    alloc: Global,
+    case: Case<'_>,
+) -> Result<(), Fail> {
+    let (words, lines, numbers, status) = case;
+    let told = told_of_skipped(alloc, numbers)?;
+    let ended = ran_on(rt, alloc, words, b"3 2 1 0")?;
+    ended.expect_beside(lines, told.as_bytes(), status)
+}
+
 #[test]
 fn a_bound_is_told_or_what_is_open(rt: HostRuntime) -> Result<(), Fail> {
-    for (words, lines, numbers, status) in RUNS {
-        let told = told_of_skipped(rt.alloc(), numbers)?;
-        let ended = ran_on(&rt, rt.alloc(), words, b"3 2 1 0")?;
-        ended.expect_beside(lines, told.as_bytes(), status)?;
+    for case in RUNS {
+        expect_case(&rt, rt.alloc(), case)?;
     }
     Ok(())
 }
@@ -216,62 +225,100 @@ fn ran_beside<H: Threads + Wait + Sync>(
 
 const BY_ERROR: Failing = Failing::ByError(io::ErrorKind::Other);
 
+/// The line of the answer is written, and as much of the other as goes before the write that fails in this way.
+fn expect_error_cut<H: Threads + Wait + Sync + Abort>(
+    rt: &H,
+    alloc: Global,
+    how: Failing,
+    fails_from: usize,
+) -> Result<(), Fail> {
+    let mut out = SampleWriter::new(alloc);
+    let mut err = SampleWriter::new(alloc)
+        .failing(fails_from as u64, u64::MAX, how)
+        .byte_by_byte_from(0);
+    let status = ran_beside(rt, alloc, &mut out, &mut err)?;
+    let is_told = out.taken() == b"bound 6 of 3 2 1 0 from 3 parts\n".as_slice();
+    holds_for(rt, status == 0 && is_told, &("write", fails_from));
+    let front = ONE_OF_FIVE.get(..fails_from).unwrap_or(&[]);
+    same_for(rt, &err.taken(), &front, &fails_from);
+    Ok(())
+}
+
 #[test]
 fn errors_that_cannot_be_written_change_no_status(rt: HostRuntime) -> Result<(), Fail> {
-    let alloc = rt.alloc();
     for how in [BY_ERROR, Failing::ByTakingNothing] {
         for fails_from in 0..ONE_OF_FIVE.len() {
-            let mut out = SampleWriter::new(alloc);
-            let mut err = SampleWriter::new(alloc)
-                .failing(fails_from as u64, u64::MAX, how)
-                .byte_by_byte_from(0);
-            let status = ran_beside(&rt, alloc, &mut out, &mut err)?;
-            assert!(rt;
-                status == 0 && out.taken() == b"bound 6 of 3 2 1 0 from 3 parts\n".as_slice(),
-                "write {fails_from}"
-            );
-            assert!(rt;
-                err.taken() == &ONE_OF_FIVE[..fails_from],
-                "write {fails_from}"
-            );
+            expect_error_cut(&rt, rt.alloc(), how, fails_from)?;
         }
     }
+    Ok(())
+}
+
+/// A run over these two outputs has this status, and this is what its errors take.
+fn expect_on_errors<H: Threads + Wait + Sync + Abort>(
+    rt: &H,
+    alloc: Global,
+    mut out: SampleWriter,
+    mut err: SampleWriter,
+    want: (u8, &[u8]),
+) -> Result<(), Fail> {
+    let (status, told) = want;
+    same(rt, &ran_beside(rt, alloc, &mut out, &mut err)?, &status);
+    same(rt, &err.taken(), &told);
     Ok(())
 }
 
 #[test]
 fn skipped_lines_are_told_once_the_answer_is_written(rt: HostRuntime) -> Result<(), Fail> {
     let alloc = rt.alloc();
-    let mut out = SampleWriter::new(alloc).byte_by_byte_from(0);
-    let mut err = SampleWriter::new(alloc).byte_by_byte_from(0);
-    assert_eq!(rt; ran_beside(&rt, alloc, &mut out, &mut err)?, 0);
-    assert!(rt; err.taken() == ONE_OF_FIVE);
+    let out = SampleWriter::new(alloc).byte_by_byte_from(0);
+    let err = SampleWriter::new(alloc).byte_by_byte_from(0);
+    expect_on_errors(&rt, alloc, out, err, (0, ONE_OF_FIVE))?;
+    let out = SampleWriter::new(alloc).failing(0, u64::MAX, BY_ERROR);
+    expect_on_errors(&rt, alloc, out, SampleWriter::new(alloc), (2, &[]))
+}
 
-    let mut out = SampleWriter::new(alloc).failing(0, u64::MAX, BY_ERROR);
-    let mut err = SampleWriter::new(alloc);
-    assert_eq!(rt; ran_beside(&rt, alloc, &mut out, &mut err)?, 2);
-    assert!(rt; err.taken().is_empty());
-    Ok(())
+/// A run of these words on this input is a yes.
+fn ran_well<H: Threads + Wait + Sync + Abort>(
+    rt: &H,
+    alloc: Global,
+    words: &str,
+    input: &[u8],
+) -> Result<Ended, AllocError> {
+    let ended = ran_on(rt, alloc, words, input)?;
+    same_for(rt, &ended.status, &0, &words);
+    Ok(ended)
+}
+
+/// What `prove` says of the parts that the first answers leave open.
+fn proved_behind<H: Threads + Wait + Sync + Abort>(
+    rt: &H,
+    alloc: Global,
+) -> Result<Ended, AllocError> {
+    let open = ran_on(rt, alloc, "parts board 6 3 first last", b"")?;
+    ran_well(rt, alloc, "prove - sets f12", open.out.as_slice())
+}
+
+/// A run of `parts` on these two answers.
+fn joined<'f, H: Threads + Wait + Sync>(
+    rt: &H,
+    alloc: Global,
+    one: &'f [u8],
+    two: &'f [u8],
+) -> Result<Ended, AllocError> {
+    let files: [(&str, &[u8]); 3] = [("board", b"3 2 1 0"), ("one", one), ("two", two)];
+    let mut shelf = MemShelf::of(alloc, &files)?;
+    let mut reader = b"".as_slice();
+    let words = ["parts", "board", "6", "3", "one", "two"];
+    ran(rt, alloc, &words, &mut shelf, &mut reader)
 }
 
 #[test]
 fn what_prove_writes_is_joined(rt: HostRuntime) -> Result<(), Fail> {
     let alloc = rt.alloc();
-    let first = ran_on(&rt, alloc, "prove claims sets f12 --workers 2", b"")?;
-    assert!(rt; first.status == 0);
-    let open = ran_on(&rt, alloc, "parts board 6 3 first last", b"")?;
-    let second = ran_on(&rt, alloc, "prove - sets f12", open.out.as_slice())?;
-    assert!(rt; second.status == 0);
-
-    let files: [(&str, &[u8]); 3] = [
-        ("board", b"3 2 1 0"),
-        ("one", first.out.as_slice()),
-        ("two", second.out.as_slice()),
-    ];
-    let mut shelf = MemShelf::of(alloc, &files)?;
-    let mut reader = b"".as_slice();
-    let words = ["parts", "board", "6", "3", "one", "two"];
-    let ended = ran(&rt, alloc, &words, &mut shelf, &mut reader)?;
+    let first = ran_well(&rt, alloc, "prove claims sets f12 --workers 2", b"")?;
+    let second = proved_behind(&rt, alloc)?;
+    let ended = joined(&rt, alloc, first.out.as_slice(), second.out.as_slice())?;
     // The digests of the tables and of the claims are of no part.
     let told = told_of_skipped(alloc, "4 of 7")?;
     ended.expect_beside(b"bound 6 of 3 2 1 0 from 3 parts\n", told.as_bytes(), 0)

@@ -1,10 +1,13 @@
 //! `prove` over a shelf of known files.
 
-use crate::runs::{Ended, owned, ran, ran_by};
+use crate::runs::{Ended, owned, push_digest, push_words, ran, ran_by};
+use crate::same::{holds_for, same, same_for};
 use byte_io::memory::MemShelf;
+use byte_io::sources::Source;
 use pdb_program::{RunHost, run};
 use std::alloc::{AllocError, Global};
 use std::io;
+use std::process::Abort;
 use std::sync::Wait;
 use std::sync::atomic::{AtomicU64, Ordering};
 use std::test::Fail;
@@ -131,9 +134,7 @@ fn proved_on<H: Threads + Wait + Sync>(
 ) -> Result<Ended, AllocError> {
     let mut all = Vec::new(alloc);
     all.push("prove")?;
-    for word in words.split(' ') {
-        all.push(word)?;
-    }
+    push_words(&mut all, words)?;
     let mut reader = b"".as_slice();
     ran(rt, alloc, all.as_slice(), shelf, &mut reader)
 }
@@ -152,12 +153,24 @@ fn proved<H: Threads + Wait + Sync>(
 fn digests_and(alloc: Global, names: &str, lines: &str) -> Result<String, AllocError> {
     let mut all = String::new(alloc);
     for table in names.split(' ').skip(2) {
-        all.push_str("sha256 ")?;
-        all.push_str(digest_of(table))?;
-        all.push_str("\n")?;
+        push_digest(&mut all, digest_of(table))?;
     }
     let claims = names.split(' ').next().unwrap_or("");
     format!(in alloc; "{all}sha256 {}\n{lines}", digest_of(claims))
+}
+
+/// A run on these names and flags says these lines, with this status.
+fn expect<H: Threads + Wait + Sync>(
+    rt: &H,
+    alloc: Global,
+    names: &str,
+    flags: (&str, &str),
+    want: (&[u8], u8),
+) -> Result<(), Fail> {
+    let (flags, more) = flags;
+    let (lines, status) = want;
+    let words = format!(in alloc; "{names} {flags}{more}")?;
+    proved(rt, alloc, words.as_str())?.expect(lines, status)
 }
 
 /// A run on these names says these lines below the digests, with this status, whichever flags it has, and a flag more.
@@ -169,10 +182,10 @@ fn expect_by<H: Threads + Wait + Sync>(
     said: (&str, u8),
 ) -> Result<(), Fail> {
     let (lines, status) = said;
-    let want = digests_and(alloc, names, lines)?;
+    let lines = digests_and(alloc, names, lines)?;
+    let want = (lines.as_bytes(), status);
     for flags in FLAGS {
-        let words = format!(in alloc; "{names} {flags}{more}")?;
-        proved(rt, alloc, words.as_str())?.expect(want.as_bytes(), status)?;
+        expect(rt, alloc, names, (flags, more), want)?;
     }
     Ok(())
 }
@@ -203,27 +216,56 @@ fn the_budget_is_that_of_each_claim(rt: HostRuntime) -> Result<(), Fail> {
     expect_by(&rt, alloc, "hard sets f1", " --budget 100", (lines, 0))
 }
 
-#[test]
-fn a_large_search_says_the_same_for_each_number_of_workers(rt: HostRuntime) -> Result<(), Fail> {
-    let alloc = rt.alloc();
+/// A run on these names by so many workers, with more behind, says these lines, with this status.
+fn expect_by_workers<H: Threads + Wait + Sync>(
+    rt: &H,
+    alloc: Global,
+    words: (&str, &str, &str),
+    shelf: &mut MemShelf,
+    want: (&[u8], u8),
+) -> Result<(), Fail> {
+    let (names, workers, more) = words;
+    let (lines, status) = want;
+    let words = format!(in alloc; "{names} --workers {workers}{more}")?;
+    proved_on(rt, alloc, words.as_str(), shelf)?.expect(lines, status)
+}
+
+/// A run on these names, with a flag more, says these lines below the digests, with this status, by 1, 2, 7 and 64 workers.
+fn expect_by_all<H: Threads + Wait + Sync>(
+    rt: &H,
+    alloc: Global,
+    words: (&str, &str),
+    shelf: &mut MemShelf,
+    said: (&str, u8),
+) -> Result<(), Fail> {
+    let (names, more) = words;
+    let (lines, status) = said;
+    let lines = digests_and(alloc, names, lines)?;
+    let want = (lines.as_bytes(), status);
+    for workers in ["1", "2", "7", "64"] {
+        expect_by_workers(rt, alloc, (names, workers, more), shelf, want)?;
+    }
+    Ok(())
+}
+
+/// The files of a large search: its claims, its sets and its table.
+fn large_files(alloc: Global) -> Result<MemShelf, AllocError> {
     let table = LeastCosts::new(alloc, &[4])?.table(alloc)?;
     let files: [(&str, &[u8]); 3] = [("large", LARGE), ("sets", b"set 0\n"), ("f4", &table)];
-    let mut shelf = MemShelf::of(alloc, &files)?;
-    let cases = [
-        ("", LARGE_LINES, 0),
-        (
-            " --budget 65537",
-            "refused K1 of 8 7 6 0 4 1 2 5 3 : 23\noptimal 1 of 1 0 2 3 4 5 6 7 8 ; L\n",
-            1,
-        ),
-    ];
+    MemShelf::of(alloc, &files)
+}
+
+/// What is said of the same claims where the budget is one board too small.
+const LARGE_ABOVE: &str =
+    "refused K1 of 8 7 6 0 4 1 2 5 3 : 23\noptimal 1 of 1 0 2 3 4 5 6 7 8 ; L\n";
+
+#[test]
+fn a_large_search_says_the_same_for_each_number_of_workers(rt: HostRuntime) -> Result<(), Fail> {
+    let mut shelf = large_files(rt.alloc())?;
+    let cases = [("", LARGE_LINES, 0), (" --budget 65537", LARGE_ABOVE, 1)];
     for (budget, lines, status) in cases {
-        let want = digests_and(alloc, "large sets f4", lines)?;
-        for workers in ["1", "2", "7", "64"] {
-            let words = format!(in alloc; "large sets f4 --workers {workers}{budget}")?;
-            let ended = proved_on(&rt, alloc, words.as_str(), &mut shelf)?;
-            ended.expect(want.as_bytes(), status)?;
-        }
+        let words = ("large sets f4", budget);
+        expect_by_all(&rt, rt.alloc(), words, &mut shelf, (lines, status))?;
     }
     Ok(())
 }
@@ -242,6 +284,22 @@ impl Gate for Searches {
     }
 }
 
+/// A run of `prove` on these names and flags, which one space parts, whose workers pass a gate.
+fn proved_by<H: Threads + Wait + Sync, G: Gate + Sync>(
+    rt: &H,
+    alloc: Global,
+    words: &str,
+    shelf: &mut MemShelf,
+    gate: &G,
+) -> Result<Ended, AllocError> {
+    let mut all = Vec::new(alloc);
+    all.push("prove")?;
+    push_words(&mut all, words)?;
+    let mut reader = b"".as_slice();
+    let host = RunHost { rt, alloc, gate };
+    ran_by(&host, all.as_slice(), shelf, &mut reader)
+}
+
 /// How many searches of large claims a run of `prove` begins by all workers, on these names and flags, which one space parts.
 fn searches_of<H: Threads + Wait + Sync>(
     rt: &H,
@@ -252,29 +310,15 @@ fn searches_of<H: Threads + Wait + Sync>(
     let gate = Searches {
         count: AtomicU64::new(0),
     };
-    let mut all = Vec::new(alloc);
-    all.push("prove")?;
-    for word in words.split(' ') {
-        all.push(word)?;
-    }
-    let mut reader = b"".as_slice();
-    let host = RunHost {
-        rt,
-        alloc,
-        gate: &gate,
-    };
-    let ended = ran_by(&host, all.as_slice(), shelf, &mut reader)?;
+    let ended = proved_by(rt, alloc, words, shelf, &gate)?;
     if ended.status != 0 {
         return Err(Fail::new("not all claims are told"));
     }
     Ok(gate.count.load(Ordering::SeqCst))
 }
 
-#[test]
-fn a_claim_is_searched_for_anew_over_words_where_it_takes_many_boards(
-    rt: HostRuntime,
-) -> Result<(), Fail> {
-    let alloc = rt.alloc();
+/// A claim twice, its sets, and tables of one tile and of seven.
+fn twice_files(alloc: Global) -> Result<MemShelf, AllocError> {
     let small = LeastCosts::new(alloc, &[4])?.table(alloc)?;
     let great = LeastCosts::new(alloc, &[1, 2, 3, 4, 5, 6, 7])?.table(alloc)?;
     let files: [(&str, &[u8]); 4] = [
@@ -283,61 +327,94 @@ fn a_claim_is_searched_for_anew_over_words_where_it_takes_many_boards(
         ("small", &small),
         ("great", &great),
     ];
-    let mut shelf = MemShelf::of(alloc, &files)?;
-    // Words are made after a third as many boards as there are placements, 3 here: the first claim takes more, and is searched for a
-    // second time, and the second claim over words alone.
-    assert_eq!(rt; searches_of(&rt, alloc, "twice sets small", &mut shelf)?, 3);
-    // Folded tables have no words.
-    let folded = "twice sets small --fold --workers 2";
-    assert_eq!(rt; searches_of(&rt, alloc, folded, &mut shelf)?, 2);
-    // A third of the 362,889 placements are 120,963: the first claim takes fewer boards, but both take more together.
-    let both = "twice sets small great great --workers 2";
-    assert_eq!(rt; searches_of(&rt, alloc, both, &mut shelf)?, 3);
-    Ok(())
+    MemShelf::of(alloc, &files)
 }
 
 #[test]
-fn more_claims_than_a_batch_has_are_told_in_their_order(rt: HostRuntime) -> Result<(), Fail> {
-    let alloc = rt.alloc();
+fn a_claim_is_searched_for_anew_over_words_where_it_takes_many_boards(
+    rt: HostRuntime,
+) -> Result<(), Fail> {
+    let mut shelf = twice_files(rt.alloc())?;
     let cases = [
-        ("3 2 1 0 : 6\n", "bound 6 of 3 2 1 0\n"),
-        ("1 0 2 3\n", "optimal 1 of 1 0 2 3 ; L\n"),
-        ("0 1 2 3 ;\n", "optimal 0 of 0 1 2 3 ;\n"),
+        // Words are made after a third as many boards as there are placements, 3 here: the first claim takes more, and is searched
+        // for a second time, and the second claim over words alone.
+        ("twice sets small", 3),
+        // Folded tables have no words.
+        ("twice sets small --fold --workers 2", 2),
+        // A third of the 362,889 placements are 120,963: the first claim takes fewer boards, but both take more together.
+        ("twice sets small great great --workers 2", 3),
     ];
-    let (mut text, mut lines) = (String::new(alloc), String::new(alloc));
-    for (claim, line) in cases.iter().cycle().take(2050) {
-        text.push_str(claim)?;
-        lines.push_str(line)?;
+    for (words, searches) in cases {
+        let found = searches_of(&rt, rt.alloc(), words, &mut shelf)?;
+        same_for(&rt, &found, &searches, &words);
     }
+    Ok(())
+}
+
+/// Claims with their answers, which are repeated.
+const MANY: [(&str, &str); 3] = [
+    ("3 2 1 0 : 6\n", "bound 6 of 3 2 1 0\n"),
+    ("1 0 2 3\n", "optimal 1 of 1 0 2 3 ; L\n"),
+    ("0 1 2 3 ;\n", "optimal 0 of 0 1 2 3 ;\n"),
+];
+
+/// So many claims, or their answers.
+fn many(alloc: Global, answers: bool) -> Result<String, AllocError> {
+    let mut text = String::new(alloc);
+    for (claim, line) in MANY.iter().cycle().take(2050) {
+        text.push_str(if answers { line } else { claim })?;
+    }
+    Ok(text)
+}
+
+/// The files of many claims.
+fn many_files(alloc: Global) -> Result<MemShelf, AllocError> {
+    let text = many(alloc, false)?;
     let files: [(&str, &[u8]); 3] = [
         ("many", text.as_bytes()),
         ("sets", b"set 0\n"),
         ("f12", &TILES_12),
     ];
-    let mut shelf = MemShelf::of(alloc, &files)?;
-    let want = digests_and(alloc, "many sets f12", lines.as_str())?;
-    for workers in ["1", "2", "7", "64"] {
-        let words = format!(in alloc; "many sets f12 --workers {workers}")?;
-        let ended = proved_on(&rt, alloc, words.as_str(), &mut shelf)?;
-        ended.expect(want.as_bytes(), 0)?;
-    }
-    Ok(())
+    MemShelf::of(alloc, &files)
+}
+
+#[test]
+fn more_claims_than_a_batch_has_are_told_in_their_order(rt: HostRuntime) -> Result<(), Fail> {
+    let alloc = rt.alloc();
+    let mut shelf = many_files(alloc)?;
+    let lines = many(alloc, true)?;
+    let words = ("many sets f12", "");
+    expect_by_all(&rt, alloc, words, &mut shelf, (lines.as_str(), 0))
+}
+
+/// A run of `prove` on claims from this reader.
+fn proved_from<H: Threads + Wait + Sync, R: Source>(
+    rt: &H,
+    alloc: Global,
+    reader: &mut R,
+) -> Result<Ended, AllocError> {
+    let mut shelf = MemShelf::of(alloc, &FILES)?;
+    let words = ["prove", "-", "sets", "f12"];
+    ran(rt, alloc, &words, &mut shelf, reader)
+}
+
+/// A reader of the claims whose fourth read fails is named.
+fn expect_read_fault<H: Threads + Wait + Sync>(rt: &H, alloc: Global) -> Result<(), Fail> {
+    let mut failing = SampleReader::new(CLAIMS)
+        .failing(3, 4, io::ErrorKind::Other)
+        .byte_by_byte_from(0);
+    proved_from(rt, alloc, &mut failing)?.expect(b"fault read -\n", 2)
 }
 
 #[test]
 fn claims_come_from_the_reader_by_a_dash(rt: HostRuntime) -> Result<(), Fail> {
     let alloc = rt.alloc();
     let want = digests_and(alloc, "claims sets f12", CLAIMS_LINES)?;
-    let words = ["prove", "-", "sets", "f12"];
-    let mut shelf = MemShelf::of(alloc, &FILES)?;
     let mut whole = CLAIMS;
-    ran(&rt, alloc, &words, &mut shelf, &mut whole)?.expect(want.as_bytes(), 1)?;
+    proved_from(&rt, alloc, &mut whole)?.expect(want.as_bytes(), 1)?;
     let mut reader = SampleReader::new(CLAIMS).byte_by_byte_from(0);
-    ran(&rt, alloc, &words, &mut shelf, &mut reader)?.expect(want.as_bytes(), 1)?;
-    let mut failing = SampleReader::new(CLAIMS)
-        .failing(3, 4, io::ErrorKind::Other)
-        .byte_by_byte_from(0);
-    ran(&rt, alloc, &words, &mut shelf, &mut failing)?.expect(b"fault read -\n", 2)
+    proved_from(&rt, alloc, &mut reader)?.expect(want.as_bytes(), 1)?;
+    expect_read_fault(&rt, alloc)
 }
 
 #[test]
@@ -372,29 +449,52 @@ fn inputs_of_claims_that_can_not_be_read_are_named(rt: HostRuntime) -> Result<()
     Ok(())
 }
 
+/// A run, and a second one where memory was wanted before the first began.
+fn proved_at_last<H: Threads + Wait + Sync>(
+    rt: &H,
+    alloc: Global,
+    words: &str,
+) -> Result<Ended, AllocError> {
+    match proved(rt, alloc, words) {
+        Ok(ended) => Ok(ended),
+        Err(_) => proved(rt, alloc, words),
+    }
+}
+
+/// The lines, made a second time where memory was wanted the first time.
+fn lines_at_last(alloc: Global) -> Result<String, AllocError> {
+    match digests_and(alloc, "claims sets f12", CLAIMS_LINES) {
+        Ok(all) => Ok(all),
+        Err(_) => digests_and(alloc, "claims sets f12", CLAIMS_LINES),
+    }
+}
+
+/// A run says these lines; or that there is no memory, alone, and the next one says them.
+fn expect_or_no_memory<H: Threads + Wait + Sync>(
+    rt: &H,
+    alloc: Global,
+    words: &str,
+    want: &[u8],
+) -> Result<(), Fail> {
+    let ended = proved_at_last(rt, alloc, words)?;
+    if ended.status != 3 {
+        return ended.expect(want, 1);
+    }
+    ended.expect(b"no memory\n", 3)?;
+    proved(rt, alloc, words)?.expect(want, 1)
+}
+
 // Run with each allocation refused in turn.
 #[test]
 fn want_of_memory_stands_alone_or_changes_no_line(rt: HostRuntime) -> Result<(), Fail> {
-    let alloc = rt.alloc();
     for words in [
         "claims sets f12",
         "claims sets f12 --workers 2",
         "claims sets f12 --fold",
         "claims sets f12 --fold --workers 2",
     ] {
-        let run = || proved(&rt, alloc, words);
-        let names = "claims sets f12";
-        let want = digests_and(alloc, names, CLAIMS_LINES).or_else(|_| digests_and(
-            alloc,
-            names,
-            CLAIMS_LINES,
-        ))?;
-        let mut ended = run().or_else(|_| run())?;
-        if ended.status == 3 {
-            ended.expect(b"no memory\n", 3)?;
-            ended = run()?;
-        }
-        ended.expect(want.as_bytes(), 1)?;
+        let want = lines_at_last(rt.alloc())?;
+        expect_or_no_memory(&rt, rt.alloc(), words, want.as_bytes())?;
     }
     Ok(())
 }
@@ -427,6 +527,24 @@ fn proved_over<H: Threads + Wait + Sync>(
     }
 }
 
+/// The write of this number fails in this way, as all behind it do: the lines' front is written.
+fn expect_write_fault<H: Threads + Wait + Sync + Abort>(
+    rt: &H,
+    alloc: Global,
+    lines: &[u8],
+    fails_from: usize,
+    how: Failing,
+) -> Result<(), Fail> {
+    let mut out = SampleWriter::new(alloc)
+        .failing(fails_from as u64, u64::MAX, how)
+        .byte_by_byte_from(0);
+    same_for(rt, &proved_over(rt, alloc, &mut out)?, &2, &fails_from);
+    let front = lines.get(..fails_from).unwrap_or(&[]);
+    holds_for(rt, out.taken() == front, &("write", fails_from));
+    same(rt, &out.calls(), &(fails_from as u64).saturating_add(1));
+    Ok(())
+}
+
 #[test]
 fn a_write_that_fails_leaves_a_front_of_the_answers(rt: HostRuntime) -> Result<(), Fail> {
     let alloc = rt.alloc();
@@ -436,15 +554,7 @@ fn a_write_that_fails_leaves_a_front_of_the_answers(rt: HostRuntime) -> Result<(
         Failing::ByTakingNothing,
     ] {
         for fails_from in 0..want.len() {
-            let mut out = SampleWriter::new(alloc)
-                .failing(fails_from as u64, u64::MAX, how)
-                .byte_by_byte_from(0);
-            assert_eq!(rt; proved_over(&rt, alloc, &mut out)?, 2);
-            assert!(rt;
-                out.taken() == &want.as_bytes()[..fails_from],
-                "write {fails_from}"
-            );
-            assert_eq!(rt; out.calls(), fails_from as u64 + 1);
+            expect_write_fault(&rt, alloc, want.as_bytes(), fails_from, how)?;
         }
     }
     Ok(())
@@ -455,10 +565,26 @@ fn the_digests_are_one_write_and_each_answer_another(rt: HostRuntime) -> Result<
     let alloc = rt.alloc();
     let want = digests_and(alloc, "claims sets f12", CLAIMS_LINES)?;
     let mut out = SampleWriter::new(alloc);
-    assert_eq!(rt; proved_over(&rt, alloc, &mut out)?, 1);
-    assert!(rt; out.taken() == want.as_bytes());
-    assert_eq!(rt; out.calls(), 12);
+    same(&rt, &proved_over(&rt, alloc, &mut out)?, &1);
+    same(&rt, &out.taken(), &want.as_bytes());
+    same(&rt, &out.calls(), &12);
     Ok(())
+}
+
+/// A run of `prove` on two claims by two workers, who pass a gate.
+fn proved_by_two<H: Threads + Wait + Sync, G: Gate + Sync>(
+    rt: &H,
+    alloc: Global,
+    gate: &G,
+) -> Result<Ended, AllocError> {
+    let mut shelf = MemShelf::of(alloc, &FILES)?;
+    proved_by(
+        rt,
+        alloc,
+        "one_false sets f12 --workers 2",
+        &mut shelf,
+        gate,
+    )
 }
 
 #[test]
@@ -466,17 +592,9 @@ fn two_workers_answer_claims_side_by_side(rt: HostRuntime) -> Result<(), Fail> {
     let alloc = rt.alloc();
     // The first job of all is the table's, and the next two are those of the claims.
     let gate = HoldingGate::new(&[0], &[1]).among(1..3);
-    let mut shelf = MemShelf::of(alloc, &FILES)?;
-    let mut reader = b"".as_slice();
-    let words = ["prove", "one_false", "sets", "f12", "--workers", "2"];
-    let host = RunHost {
-        rt: &rt,
-        alloc,
-        gate: &gate,
-    };
     let lines = "refused O2 by ULDRUL of 3 2 1 0 : 7\noptimal 1 of 1 0 2 3 ; L\n";
     let want = digests_and(alloc, "one_false sets f12", lines)?;
-    ran_by(&host, &words, &mut shelf, &mut reader)?.expect(want.as_bytes(), 1)?;
-    assert!(rt; gate.saw_all(), "one worker alone");
+    proved_by_two(&rt, alloc, &gate)?.expect(want.as_bytes(), 1)?;
+    holds_for(&rt, gate.saw_all(), &"one worker alone");
     Ok(())
 }

@@ -1,8 +1,11 @@
 //! `replay` on puzzle texts.
 
-use crate::runs::{ran, replayed};
+use crate::runs::{expect_replayed, ran};
 use byte_io::memory::MemShelf;
+use std::alloc::Global;
+use std::sync::Wait;
 use std::test::Fail;
+use std::thread::Threads;
 
 /// Puzzle texts, the lines on them, and the statuses.
 const TEXTS: [(&[u8], &[u8], u8); 21] = [
@@ -43,36 +46,49 @@ const TEXTS: [(&[u8], &[u8], u8); 21] = [
 
 #[test]
 fn puzzle_texts_get_their_lines(rt: HostRuntime) -> Result<(), Fail> {
-    let alloc = rt.alloc();
-    for (input, line, status) in TEXTS {
-        replayed(&rt, alloc, input)?.expect(line, status)?;
+    for (text, line, status) in TEXTS {
+        expect_replayed(&rt, rt.alloc(), text, line, status)?;
     }
     Ok(())
 }
 
+/// Files, of which two have the same name.
+const FILES: [(&str, &[u8]); 4] = [
+    ("six", b"1 0 2 3 ;"),
+    ("one", b"1 0 2 3 ; L"),
+    ("six", b"3 2 1 0 ; ULDRUL"),
+    (" six moves ", b"3 2 1 0 ; URDLUL"),
+];
+
+/// Names of files, the lines on these, and the statuses.
+const NAMES: [(&str, &[u8], u8); 8] = [
+    ("six", b"solution 6\n", 0),
+    ("one", b"solution 1\n", 0),
+    (" six moves ", b"refused M2 at step 1\n", 1),
+    ("six moves", b"fault read six moves\n", 2),
+    ("two", b"fault read two\n", 2),
+    ("-", b"fault read -\n", 2),
+    ("a\nsolution 80", b"fault read a?solution 80\n", 2),
+    ("\x1b[31m\x7f", b"fault read ?[31m?\n", 2),
+];
+
+/// A replay of the file of this name says this line, with this status.
+fn expect_of_file<H: Threads + Wait + Sync>(
+    rt: &H,
+    alloc: Global,
+    name: &str,
+    line: &[u8],
+    status: u8,
+) -> Result<(), Fail> {
+    let mut shelf = MemShelf::of(alloc, &FILES)?;
+    let mut reader = b"0 1 2 3 ;".as_slice();
+    ran(rt, alloc, &["replay", name], &mut shelf, &mut reader)?.expect(line, status)
+}
+
 #[test]
 fn a_file_is_read_under_its_own_name(rt: HostRuntime) -> Result<(), Fail> {
-    let alloc = rt.alloc();
-    let files: [(&str, &[u8]); 4] = [
-        ("six", b"1 0 2 3 ;"),
-        ("one", b"1 0 2 3 ; L"),
-        ("six", b"3 2 1 0 ; ULDRUL"),
-        (" six moves ", b"3 2 1 0 ; URDLUL"),
-    ];
-    let cases: [(&str, &[u8], u8); 8] = [
-        ("six", b"solution 6\n", 0),
-        ("one", b"solution 1\n", 0),
-        (" six moves ", b"refused M2 at step 1\n", 1),
-        ("six moves", b"fault read six moves\n", 2),
-        ("two", b"fault read two\n", 2),
-        ("-", b"fault read -\n", 2),
-        ("a\nsolution 80", b"fault read a?solution 80\n", 2),
-        ("\x1b[31m\x7f", b"fault read ?[31m?\n", 2),
-    ];
-    for (name, line, status) in cases {
-        let mut shelf = MemShelf::of(alloc, &files)?;
-        let mut reader = b"0 1 2 3 ;".as_slice();
-        ran(&rt, alloc, &["replay", name], &mut shelf, &mut reader)?.expect(line, status)?;
+    for (name, line, status) in NAMES {
+        expect_of_file(&rt, rt.alloc(), name, line, status)?;
     }
     Ok(())
 }

@@ -37,6 +37,16 @@ impl Ended {
         )))
     }
 
+    /// It ended well, and wrote this last.
+    pub fn is_yes(&self, last: &[u8]) -> bool {
+        self.status == 0 && self.out.ends_with(last)
+    }
+
+    /// It found a mistake in its words: it said so on its errors, and nothing else.
+    pub fn is_mistake(&self) -> bool {
+        self.status == 2 && self.out.is_empty() && self.err.starts_with(b"error: ")
+    }
+
     /// It wrote so many digest lines, then this, and nothing on its errors, and was a refusal; or the test fails, and shows
     /// what it wrote.
     pub fn expect_refused(&self, digests: usize, line: &[u8]) -> Result<(), Fail> {
@@ -79,6 +89,21 @@ pub fn owned(alloc: Global, words: &[&str]) -> Result<Vec<String>, AllocError> {
     Ok(all)
 }
 
+/// Words behind others, from a text in which one space parts them.
+pub fn push_words<'w>(all: &mut Vec<&'w str>, words: &'w str) -> Result<(), AllocError> {
+    for word in words.split(' ') {
+        all.push(word)?;
+    }
+    Ok(())
+}
+
+/// A digest's line behind other lines.
+pub fn push_digest(lines: &mut String, digest: &str) -> Result<(), AllocError> {
+    lines.push_str("sha256 ")?;
+    lines.push_str(digest)?;
+    lines.push_str("\n")
+}
+
 /// A run of these words on a host, over a shelf and a reader.
 pub fn ran_by<H: Threads + Wait + Sync, S: Shelf, R: Source, G: Gate + Sync>(
     host: &RunHost<'_, H, G>,
@@ -110,6 +135,20 @@ pub fn ran<H: Threads + Wait + Sync, S: Shelf, R: Source>(
     ran_by(&host, words, shelf, reader)
 }
 
+/// A run of these words, which one space parts, over a shelf and this input.
+pub fn ran_words<H: Threads + Wait + Sync, S: Shelf>(
+    rt: &H,
+    alloc: Global,
+    words: &str,
+    shelf: &mut S,
+    input: &[u8],
+) -> Result<Ended, AllocError> {
+    let mut all = Vec::new(alloc);
+    push_words(&mut all, words)?;
+    let mut reader = input;
+    ran(rt, alloc, all.as_slice(), shelf, &mut reader)
+}
+
 /// A run of `replay` on standard input with these bytes.
 pub fn replayed<H: Threads + Wait + Sync>(
     rt: &H,
@@ -119,6 +158,17 @@ pub fn replayed<H: Threads + Wait + Sync>(
     let mut shelf = MemShelf::of(alloc, &[])?;
     let mut reader = input;
     ran(rt, alloc, &["replay"], &mut shelf, &mut reader)
+}
+
+/// A replay of this text says this line, with this status.
+pub fn expect_replayed<H: Threads + Wait + Sync>(
+    rt: &H,
+    alloc: Global,
+    text: &[u8],
+    line: &[u8],
+    status: u8,
+) -> Result<(), Fail> {
+    replayed(rt, alloc, text)?.expect(line, status)
 }
 
 /// A run of `table` by so many workers, who pass a gate, on a file with these bytes.
@@ -148,6 +198,18 @@ pub struct Said<'a> {
     pub status: u8,
 }
 
+/// A run on the file by so many workers says these lines, with this status.
+fn expect_by<H: Threads + Wait + Sync>(
+    rt: &H,
+    alloc: Global,
+    file: &[u8],
+    workers: &str,
+    want: (&[u8], u8),
+) -> Result<(), Fail> {
+    let (lines, status) = want;
+    checked_by(rt, alloc, file, workers, &OpenGate)?.expect(lines, status)
+}
+
 /// A run on the file says this, whether 1, 2, 7 or 64 workers check it.
 pub fn expect_said<H: Threads + Wait + Sync>(
     rt: &H,
@@ -155,10 +217,10 @@ pub fn expect_said<H: Threads + Wait + Sync>(
     file: &[u8],
     said: &Said<'_>,
 ) -> Result<(), Fail> {
-    let want = format!(in alloc; "sha256 {}\n{}\n", said.digest, said.line)?;
+    let lines = format!(in alloc; "sha256 {}\n{}\n", said.digest, said.line)?;
+    let want = (lines.as_bytes(), said.status);
     for workers in ["1", "2", "7", "64"] {
-        let ended = checked_by(rt, alloc, file, workers, &OpenGate)?;
-        ended.expect(want.as_bytes(), said.status)?;
+        expect_by(rt, alloc, file, workers, want)?;
     }
     Ok(())
 }

@@ -1,8 +1,9 @@
 //! `table` on table files.
 
-use crate::runs::{Said, expect_said, ran};
+use crate::runs::{Ended, Said, expect_said, ran};
+use crate::same::holds_for;
 use byte_io::memory::MemShelf;
-use std::alloc::Global;
+use std::alloc::{AllocError, Global};
 use std::sync::Wait;
 use std::test::Fail;
 use std::thread::Threads;
@@ -146,24 +147,28 @@ fn files_of_another_length_are_refused(rt: HostRuntime) -> Result<(), Fail> {
     expect_lines(&rt, rt.alloc(), &cases, 1)
 }
 
-#[test]
-fn words_and_names_that_do_not_serve(rt: HostRuntime) -> Result<(), Fail> {
-    let alloc = rt.alloc();
+/// A run of these words over a shelf that holds one table, `t`.
+fn ran_on<H: Threads + Wait + Sync>(
+    rt: &H,
+    alloc: Global,
+    words: &[&str],
+) -> Result<Ended, AllocError> {
     let mut shelf = MemShelf::of(alloc, &[("t", TILE_1.as_slice())])?;
     let mut reader = b"".as_slice();
+    ran(rt, alloc, words, &mut shelf, &mut reader)
+}
+
+#[test]
+fn words_and_names_that_do_not_serve(rt: HostRuntime) -> Result<(), Fail> {
     for workers in ["0", "65", "-1", "two", ""] {
-        let words = ["table", "t", "--workers", workers];
-        let ended = ran(&rt, alloc, &words, &mut shelf, &mut reader)?;
-        assert!(rt;
-            ended.status == 2 && ended.out.is_empty() && ended.err.starts_with(b"error: "),
-            "{workers}"
-        );
+        let ended = ran_on(&rt, rt.alloc(), &["table", "t", "--workers", workers])?;
+        holds_for(&rt, ended.is_mistake(), &workers);
     }
     for (name, line) in [
         ("-", b"fault read -\n".as_slice()),
         ("t\n", b"fault read t?\n"),
     ] {
-        ran(&rt, alloc, &["table", name], &mut shelf, &mut reader)?.expect(line, 2)?;
+        ran_on(&rt, rt.alloc(), &["table", name])?.expect(line, 2)?;
     }
     Ok(())
 }

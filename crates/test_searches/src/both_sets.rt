@@ -1,11 +1,14 @@
 //! Searches over sets with transposed members.
 
-use crate::boards::BOARDS_OF_SIDE_3;
 use crate::bundles::bundle;
-use crate::finding::{built, certified, expands, halves_of_side_3};
+use crate::finding::{
+    expands, expect_moves, expect_ring, expect_shortest, halves_of_side_3, tables_of_side_4,
+};
+use set_sum::Bundle;
+use std::process::Abort;
+use std::sync::Wait;
 use std::test::Fail;
-use test_samples::LeastCosts;
-use test_samples::boards::RING;
+use std::thread::Threads;
 use test_samples::files::{TILE_1, TILE_3, TILES_12};
 
 /// A board of side 4, how many moves its shortest solution has, and how many boards are expanded to find it.
@@ -48,42 +51,39 @@ const CASES_OF_SIDE_4: [Case; 4] = [
 
 #[test]
 fn solutions_of_side_2_are_proved_shortest(rt: HostRuntime) {
-    let one = bundle(&rt, &[&TILE_1], b"set 0 0t\n");
-    let alone = bundle(&rt, &[&TILES_12], b"set 0t\n");
-    let all = bundle(&rt, &[&TILE_3, &TILE_1], b"set 0\nset 0 1 1t\nset 1t\n");
-    for bundle in [&one, &alone, &all] {
-        for (step, numbers) in RING.iter().enumerate() {
-            let moves = step.min(12 - step);
-            let bound = certified(&rt, bundle, numbers);
-            assert_eq!(rt; bound, Ok(moves as u8), "{numbers:?}");
-        }
-    }
+    expect_ring(&rt, &bundle(&rt, &[&TILE_1], b"set 0 0t\n"));
+    expect_ring(&rt, &bundle(&rt, &[&TILES_12], b"set 0t\n"));
+    let sets = b"set 0\nset 0 1 1t\nset 1t\n";
+    expect_ring(&rt, &bundle(&rt, &[&TILE_3, &TILE_1], sets));
 }
 
 #[test]
 fn solutions_of_side_3_are_as_short_as_a_search_finds_them(rt: HostRuntime) -> Result<(), Fail> {
     let (first, second) = halves_of_side_3(rt.alloc())?;
-    let search = LeastCosts::new(rt.alloc(), &[1, 2, 3, 4, 5, 6, 7, 8])?;
     let both = bundle(&rt, &[&first, &second], b"set 0 1\nset 0t 1t\n");
-    for numbers in &BOARDS_OF_SIDE_3 {
-        let bound = certified(&rt, &both, numbers);
-        assert_eq!(rt; bound, Ok(search.of(numbers)), "{numbers:?}");
-    }
+    expect_shortest(&rt, &both)?;
     Ok(())
+}
+
+/// Checks how many boards of each case are expanded over both bundles, and its moves.
+fn expect_cases<R: Threads + Wait + AllocGlobal + Abort>(
+    rt: &R,
+    one: &Bundle<'_>,
+    both: &Bundle<'_>,
+) {
+    for case in &CASES_OF_SIDE_4 {
+        expands(rt, one, &case.numbers, case.with_one_set);
+        expands(rt, both, &case.numbers, case.with_both_sets);
+        expect_moves(rt, both, &case.numbers, case.moves);
+    }
 }
 
 // The second set cuts off more than the first one does alone.
 #[test]
 fn searches_of_side_4_expand_fewer_boards_with_both_sets(rt: HostRuntime) {
-    let first = built(&rt, 4, 14).expect(&rt, "a table");
-    let second = built(&rt, 4, 224).expect(&rt, "a table");
-    let third = built(&rt, 4, 35840).expect(&rt, "a table");
+    let (first, second, third) = tables_of_side_4(&rt);
     let tables: [&[u8]; 3] = [&first, &second, &third];
     let one = bundle(&rt, &tables, b"set 0 1 2\n");
     let both = bundle(&rt, &tables, b"set 0 1 2\nset 0t 1t 2t\n");
-    for case in &CASES_OF_SIDE_4 {
-        expands(&rt, &one, &case.numbers, case.with_one_set);
-        expands(&rt, &both, &case.numbers, case.with_both_sets);
-        assert_eq!(rt; certified(&rt, &both, &case.numbers), Ok(case.moves));
-    }
+    expect_cases(&rt, &one, &both);
 }

@@ -71,3 +71,11 @@ pub(crate) fn folded_bundle<R: Threads + Wait + AllocGlobal + Abort>(
 ) -> Bundle<'static> {
     bundle_of(rt, all_folded(rt, files), text)
 }
+
+/// The bundle of one table file, in one set.
+pub(crate) fn over_one<'a, R: Threads + Wait + AllocGlobal + Abort>(
+    rt: &R,
+    file: &'a [u8],
+) -> Bundle<'a> {
+    bundle(rt, &[file], b"set 0\n")
+}

@@ -1,14 +1,16 @@
 //! Bundles of folded tables: their sums, the logs over them, and what is refused.
 
-use crate::bundles::{all_folded, bundle, bundle_of, checked, folded};
-use crate::logs::{BOARD, answer, refused};
+use crate::bundles::{all_folded, bundle_of, checked, folded, over_one};
+use crate::finding::searched_table;
+use crate::logs::{BOARD, expect_answer, refused};
 use crate::plain_logs::Cells;
+use crate::same::same_for;
 use log_check::{LogFault, LogRefusal};
 use puz_board::Board;
 use set_sum::{Bundle, SetFault};
+use std::process::Abort;
 use std::test::Fail;
 use tab_rule::Count;
-use test_samples::LeastCosts;
 use test_samples::files::{TILE_1, TILE_3, TILE_24, TILES_12, TILES_123, with_byte};
 use test_samples::logs::{BRANCHES, BY_PARITY, CITATION, LEAF, UNSOLVABLE};
 
@@ -23,6 +25,11 @@ fn sum(bundle: &Bundle<'_>, set: u8, numbers: &[u8]) -> Option<Count> {
     } else {
         None
     }
+}
+
+/// Checks the sum of a set of a bundle for the board with these numbers.
+fn expect_sum(rt: &impl Abort, bundle: &Bundle<'_>, set: u8, numbers: &[u8], wanted: Count) {
+    same_for(rt, &sum(bundle, set, numbers), &Some(wanted), &numbers);
 }
 
 #[test]
@@ -52,11 +59,7 @@ fn folded_tables_add_up(rt: HostRuntime) {
     ];
     for (files, text, numbers, want) in sums {
         let bundle = bundle_of(&rt, all_folded(&rt, files), text);
-        assert_eq!(rt;
-            sum(&bundle, 0, &numbers),
-            Some(want),
-            "{text:?}, {numbers:?}"
-        );
+        expect_sum(&rt, &bundle, 0, &numbers, want);
     }
 }
 
@@ -73,7 +76,7 @@ fn full_and_folded_tables_add_up(rt: HostRuntime) {
         // The transposed board is 1 2 0 3.
         (1, [2, 0, 1, 3], Count::Never),
     ] {
-        assert_eq!(rt; sum(&bundle, set, &numbers), Some(want), "{numbers:?}");
+        expect_sum(&rt, &bundle, set, &numbers, want);
     }
 }
 
@@ -109,17 +112,17 @@ fn logs_are_checked_over_folded_tables(rt: HostRuntime) {
     ];
     for (files, text, log, board, want) in logs {
         let bundle = bundle_of(&rt, all_folded(&rt, files), text);
-        assert_eq!(rt; answer(&rt, &bundle, log, &board), want, "{log:?}");
+        expect_answer(&rt, &bundle, log, &board, want);
     }
 }
 
 #[test]
 fn a_full_table_proves_more(rt: HostRuntime) {
-    let full = bundle(&rt, &[&TILES_12], b"set 0\n");
-    assert_eq!(rt; answer(&rt, &full, &NEVER, &[0, 2, 1, 3]), Ok(5));
+    let full = over_one(&rt, &TILES_12);
+    expect_answer(&rt, &full, &NEVER, &[0, 2, 1, 3], Ok(5));
     let folded = bundle_of(&rt, all_folded(&rt, &[&TILES_12]), b"set 0\n");
     let log = with_byte(&NEVER, 14, 4);
-    assert_eq!(rt; answer(&rt, &folded, &log, &[0, 2, 1, 3]), Ok(4));
+    expect_answer(&rt, &folded, &log, &[0, 2, 1, 3], Ok(4));
 }
 
 /// Boards of side 3, of both kinds.
@@ -134,14 +137,14 @@ const BOARDS: [[u8; 9]; 5] = [
 #[test]
 fn a_transposed_member_says_what_the_transposed_table_does(rt: HostRuntime) -> Result<(), Fail> {
     // On side 3 the tiles 1, 2 and 3 change with 3, 6 and 1.
-    let file = LeastCosts::new(rt.alloc(), &[1, 2, 3])?.table(rt.alloc())?;
-    let other = LeastCosts::new(rt.alloc(), &[1, 3, 6])?.table(rt.alloc())?;
+    let file = searched_table(rt.alloc(), &[1, 2, 3])?;
+    let other = searched_table(rt.alloc(), &[1, 3, 6])?;
     let by_member = bundle_of(&rt, all_folded(&rt, &[&file]), b"set 0t\n");
     let by_table = bundle_of(&rt, all_folded(&rt, &[&other]), b"set 0\n");
     for numbers in BOARDS {
         let want = sum(&by_table, 0, &numbers);
         assert!(rt; want.is_some());
-        assert_eq!(rt; sum(&by_member, 0, &numbers), want, "{numbers:?}");
+        same_for(&rt, &sum(&by_member, 0, &numbers), &want, &numbers);
     }
     Ok(())
 }
@@ -158,6 +161,6 @@ fn folded_tables_are_refused_as_full_ones_are(rt: HostRuntime) {
     ];
     for (files, text, want) in faults {
         let fault = Bundle::read(all_folded(&rt, files), text).err();
-        assert_eq!(rt; fault, Some(want), "{text:?}");
+        same_for(&rt, &fault, &Some(want), &text);
     }
 }

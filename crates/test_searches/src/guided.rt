@@ -2,6 +2,8 @@
 
 ghost use Rattle.std.specs.Prelude.{◌≡◌, IfOk};
 
+use crate::finding::{board_of, searched_table};
+use crate::same::{same, same_for};
 use crate::small_searches::{bundle, moves, with_two_exchanged};
 use crate::starts::start_of;
 use move_strings::Automaton;
@@ -13,7 +15,6 @@ use std::process::Abort;
 use std::test::Fail;
 use string_make::draft_of;
 use tab_rule::Count;
-use test_samples::LeastCosts;
 use test_samples::boards::RING;
 use test_samples::files::TILE_1;
 
@@ -147,7 +148,7 @@ fn count_all<R: AllocGlobal + Abort>(
         bundle,
         automaton: &automaton,
     };
-    assert_eq!(rt; refuted(rt, led, &board, bound), boards, "{numbers:?}");
+    same_for(rt, &refuted(rt, led, &board, bound), &boards, &numbers);
     Ok(boards)
 }
 
@@ -159,7 +160,7 @@ fn the_automaton_of_reversals_leaves_out_moves_straight_back_alone(
     for (numbers, bound) in RING.iter().zip([0, 1, 2, 3, 4, 5, 6, 5, 4, 3, 2, 1]) {
         count_all(&rt, &small, numbers, bound)?;
     }
-    let file = LeastCosts::new(rt.alloc(), &[1, 2, 3])?.table(rt.alloc())?;
+    let file = searched_table(rt.alloc(), &[1, 2, 3])?;
     let large = bundle(&rt, &file);
     for bound in [10, 15] {
         count_all(&rt, &large, &NUMBERS, bound)?;
@@ -189,10 +190,19 @@ fn compare<R: Abort>(rt: &R, led: Led<'_>, longer: &Automaton, board: &Board) {
         automaton: longer,
     };
     let moves = fewest(rt, shorter, board);
-    assert_eq!(rt; fewest(rt, longer, board), moves);
+    same(rt, &fewest(rt, longer, board), &moves);
     if let Some(moves) = moves {
         let bound = u8::try_from(moves).unwrap_or(u8::MAX);
         assert!(rt; refuted(rt, longer, board, bound) <= refuted(rt, shorter, board, bound));
+    }
+}
+
+/// The same of each board of the ring, and with its tiles 1 and 2 exchanged.
+fn compare_ring<R: Abort>(rt: &R, led: Led<'_>, longer: &Automaton) {
+    for numbers in &RING {
+        compare(rt, led, longer, &board_of(rt, numbers));
+        let odd = with_two_exchanged(rt, numbers);
+        compare(rt, led, longer, &board_of(rt, &odd));
     }
 }
 
@@ -204,12 +214,7 @@ fn compare_all<R: AllocGlobal + Abort>(rt: &R, bundle: &Bundle<'_>) -> Result<()
         bundle,
         automaton: &automaton,
     };
-    for numbers in &RING {
-        let board = Board::from_cells(numbers).expect(rt, "a board");
-        compare(rt, led, &longer, &board);
-        let odd = Board::from_cells(&with_two_exchanged(rt, numbers)).expect(rt, "a board");
-        compare(rt, led, &longer, &odd);
-    }
+    compare_ring(rt, led, &longer);
     Ok(())
 }
 
@@ -236,6 +241,15 @@ pub(crate) fn scrambled(goal: &Board, state: &mut u32) -> Board {
     board
 }
 
+/// The same of boards some random moves away from the goal board of side 3.
+fn compare_scrambled<R: Abort>(rt: &R, led: Led<'_>, longer: &Automaton) {
+    let goal = board_of(rt, &[0, 1, 2, 3, 4, 5, 6, 7, 8]);
+    let mut state: u32 = 1;
+    for _ in 0..1000 {
+        compare(rt, led, longer, &scrambled(&goal, &mut state));
+    }
+}
+
 /// The same of boards of side 3.
 fn compare_some<R: AllocGlobal + Abort>(rt: &R, bundle: &Bundle<'_>) -> Result<(), AllocError> {
     let automaton = reversals(rt, bundle.side());
@@ -244,17 +258,13 @@ fn compare_some<R: AllocGlobal + Abort>(rt: &R, bundle: &Bundle<'_>) -> Result<(
         bundle,
         automaton: &automaton,
     };
-    let goal = Board::from_cells(&[0, 1, 2, 3, 4, 5, 6, 7, 8]).expect(rt, "a board");
-    let mut state: u32 = 1;
-    for _ in 0..1000 {
-        compare(rt, led, &longer, &scrambled(&goal, &mut state));
-    }
+    compare_scrambled(rt, led, &longer);
     Ok(())
 }
 
 #[test]
 fn a_longer_automaton_finds_the_same_on_boards_of_side_3(rt: HostRuntime) -> Result<(), Fail> {
-    let file = LeastCosts::new(rt.alloc(), &[1, 2, 3, 4])?.table(rt.alloc())?;
+    let file = searched_table(rt.alloc(), &[1, 2, 3, 4])?;
     let bundle = bundle(&rt, &file);
     compare_some(&rt, &bundle)?;
     Ok(())

@@ -1,6 +1,8 @@
 //! Searches of more boards than one thread searches alone, of a board of side 3 with the table of a few tiles.
 
+use crate::finding::searched_table;
 use crate::guided::reversals;
+use crate::same::same;
 use crate::small_searches::{Told, bundle, searched};
 use crate::starts::start_of;
 use puz_board::Board;
@@ -11,7 +13,6 @@ use std::sync::Wait;
 use std::sync::atomic::{AtomicU64, Ordering};
 use std::test::Fail;
 use std::thread::Threads;
-use test_samples::LeastCosts;
 use work_run::{Gate, OpenGate, Workers};
 
 /// One of the two boards of side 3 that are 31 moves from the goal board, the most (Reinefeld 1993).
@@ -61,14 +62,19 @@ fn refuted<R: Threads + Wait + Sync + AllocGlobal + Abort, G: Gate + Sync>(
 
 #[test]
 fn a_large_search_is_the_same_for_each_number_of_workers(rt: HostRuntime) -> Result<(), Fail> {
-    let file = LeastCosts::new(rt.alloc(), &[4])?.table(rt.alloc())?;
+    let file = searched_table(rt.alloc(), &[4])?;
     let bundle = bundle(&rt, &file);
     let boards = refuted(&rt, &bundle, 1, 1 << 40, &OpenGate).expect(&rt, "refuted");
     assert!(rt; boards > 1 << 16, "{boards}");
-    assert_eq!(rt; refuted(&rt, &bundle, 64, boards, &OpenGate), Some(boards));
-    assert_eq!(rt;
-        refuted(&rt, &bundle, 7, boards.saturating_sub(1), &OpenGate),
-        None
+    same(
+        &rt,
+        &refuted(&rt, &bundle, 64, boards, &OpenGate),
+        &Some(boards),
+    );
+    same(
+        &rt,
+        &refuted(&rt, &bundle, 7, boards.saturating_sub(1), &OpenGate),
+        &None,
     );
     Ok(())
 }
@@ -77,7 +83,7 @@ fn a_large_search_is_the_same_for_each_number_of_workers(rt: HostRuntime) -> Res
 fn a_large_search_is_cut_into_hundreds_of_jobs_for_each_worker(
     rt: HostRuntime,
 ) -> Result<(), Fail> {
-    let file = LeastCosts::new(rt.alloc(), &[4])?.table(rt.alloc())?;
+    let file = searched_table(rt.alloc(), &[4])?;
     let bundle = bundle(&rt, &file);
     for (workers, least) in [(1, 512), (3, 1_536), (64, 4_096)] {
         let jobs = Jobs {
@@ -93,11 +99,11 @@ fn a_large_search_is_cut_into_hundreds_of_jobs_for_each_worker(
 
 #[test]
 fn a_solution_behind_the_frontier_is_found(rt: HostRuntime) -> Result<(), Fail> {
-    let file = LeastCosts::new(rt.alloc(), &[1, 2, 3, 4])?.table(rt.alloc())?;
+    let file = searched_table(rt.alloc(), &[1, 2, 3, 4])?;
     let bundle = bundle(&rt, &file);
     let Told::Solved(moves) = searched(&rt, &bundle, &NUMBERS, 32, 1 << 40) else {
         panic!(rt; "solved");
     };
-    assert_eq!(rt; moves, 31);
+    same(&rt, &moves, &31);
     Ok(())
 }

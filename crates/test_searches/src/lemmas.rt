@@ -1,8 +1,10 @@
 //! Worked logs over known tables of side 2, and lemmas that aren't good.
 
-use crate::bundles::bundle;
+use crate::bundles::over_one;
+use crate::same::same_for;
 use log_check::check_lemma;
 use log_file::LogView;
+use set_sum::Bundle;
 use std::process::Abort;
 use std::sync::Wait;
 use std::test::Fail;
@@ -18,9 +20,13 @@ fn is_good<R: Threads + Wait + AllocGlobal + Abort>(
     lemma: u32,
 ) -> Option<bool> {
     let log = LogView::read(rt.alloc(), log).ok()?;
-    let bundle = bundle(rt, &[table], b"set 0\n");
+    is_good_over(&over_one(rt, table), &log, lemma)
+}
+
+/// Whether a lemma of a log is good over a bundle.
+fn is_good_over(bundle: &Bundle<'_>, log: &LogView<'_>, lemma: u32) -> Option<bool> {
     if lemma < log.len() && log.side() == bundle.side() {
-        Some(check_lemma(&log, &bundle, lemma))
+        Some(check_lemma(log, bundle, lemma))
     } else {
         None
     }
@@ -40,6 +46,35 @@ fn is_good_alone<R: Threads + Wait + AllocGlobal + Abort>(
     Ok(is_good(rt, &TILES_123, &log, 0))
 }
 
+/// Checks whether a lemma of a log is good over one table.
+fn expect_good<R: Threads + Wait + AllocGlobal + Abort>(
+    rt: &R,
+    table: &[u8],
+    log: &[u8],
+    lemma: u32,
+    good: bool,
+) {
+    same_for(
+        rt,
+        &is_good(rt, table, log, lemma),
+        &Some(good),
+        &(log, lemma),
+    );
+}
+
+/// Checks whether the lemma of a board of side 2, a bound and a tree is good over the table of tiles 1, 2 and 3.
+fn expect_alone<R: Threads + Wait + AllocGlobal + Abort>(
+    rt: &R,
+    board: &[u8; 4],
+    bound: u8,
+    tree: &[u8],
+    good: bool,
+) -> Result<(), Fail> {
+    let found = is_good_alone(rt, board, bound, tree)?;
+    same_for(rt, &found, &Some(good), &(bound, tree));
+    Ok(())
+}
+
 #[test]
 fn worked_lemmas_are_good(rt: HostRuntime) {
     let lemmas: [(&[u8], &[u8], u32); 5] = [
@@ -50,11 +85,7 @@ fn worked_lemmas_are_good(rt: HostRuntime) {
         (&TILES_123, &UNSOLVABLE, 0),
     ];
     for (table, log, lemma) in lemmas {
-        assert_eq!(rt;
-            is_good(&rt, table, log, lemma),
-            Some(true),
-            "{log:?}, {lemma}"
-        );
+        expect_good(&rt, table, log, lemma, true);
     }
 }
 
@@ -69,7 +100,7 @@ fn a_leaf_reaches_its_bound(rt: HostRuntime) {
     ];
     for (table, bound, want) in leaves {
         let log = with_byte(&LEAF, 14, bound);
-        assert_eq!(rt; is_good(&rt, table, &log, 0), Some(want), "bound {bound}");
+        expect_good(&rt, table, &log, 0, want);
     }
 }
 
@@ -98,8 +129,7 @@ fn bytes_spell_one_tree(rt: HostRuntime) -> Result<(), Fail> {
         (b"\x20\0\0\0\0", false),
     ];
     for (tree, want) in trees {
-        let found = is_good_alone(&rt, &[3, 2, 1, 0], 6, tree)?;
-        assert_eq!(rt; found, Some(want), "{tree:?}");
+        expect_alone(&rt, &[3, 2, 1, 0], 6, tree, want)?;
     }
     Ok(())
 }
@@ -113,8 +143,7 @@ fn the_goal_board_has_a_leaf_alone(rt: HostRuntime) -> Result<(), Fail> {
         (1, b"\0\x01\x01", false),
     ];
     for (bound, tree, want) in trees {
-        let found = is_good_alone(&rt, &[0, 1, 2, 3], bound, tree)?;
-        assert_eq!(rt; found, Some(want), "{bound}, {tree:?}");
+        expect_alone(&rt, &[0, 1, 2, 3], bound, tree, want)?;
     }
     Ok(())
 }
@@ -132,25 +161,21 @@ fn an_earlier_lemma_of_the_board_is_cited(rt: HostRuntime) {
     ];
     for (place, byte, lemma, want) in changes {
         let log = with_byte(&CITATION, place, byte);
-        assert_eq!(rt;
-            is_good(&rt, &TILES_12, &log, lemma),
-            Some(want),
-            "{log:?}, {lemma}"
-        );
+        expect_good(&rt, &TILES_12, &log, lemma, want);
     }
     // The board `3 0 2 1`, of the same side, in place of `3 0 1 2`.
     let other = with_byte(&with_byte(&CITATION, 12, 2), 13, 1);
-    assert_eq!(rt; is_good(&rt, &TILES_12, &other, 1), Some(false));
+    expect_good(&rt, &TILES_12, &other, 1, false);
 }
 
 #[test]
 fn children_come_in_their_order(rt: HostRuntime) {
     // Down first, whose set says 4, and then left, whose set says 3, where 4 is wanted.
-    assert_eq!(rt; is_good(&rt, &TILES_12, &CITATION, 0), Some(true));
+    expect_good(&rt, &TILES_12, &CITATION, 0, true);
     let mut turned = CITATION;
     turned[20] = 0;
     turned[23] = 1;
-    assert_eq!(rt; is_good(&rt, &TILES_12, &turned, 0), Some(false));
+    expect_good(&rt, &TILES_12, &turned, 0, false);
 }
 
 /// A tree of so many branches, one below the other, under the board `0 1 3 2` with leaves below them.
@@ -176,8 +201,7 @@ fn a_tree_has_255_levels_of_branches(rt: HostRuntime) -> Result<(), Fail> {
     ];
     for (levels, bound, want) in trees {
         let tree = deep(&rt, levels)?;
-        let found = is_good_alone(&rt, &[0, 1, 3, 2], bound, &tree)?;
-        assert_eq!(rt; found, Some(want), "{levels} levels, bound {bound}");
+        expect_alone(&rt, &[0, 1, 3, 2], bound, &tree, want)?;
     }
     Ok(())
 }

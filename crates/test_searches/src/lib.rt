@@ -41,6 +41,8 @@ mod parts;
 #[cfg(test)]
 mod plain_logs;
 #[cfg(test)]
+mod same;
+#[cfg(test)]
 mod searches;
 #[cfg(test)]
 mod sets;

@@ -1,7 +1,8 @@
 //! Logs checked whole, by several workers: worked ones, changed ones byte by byte, long ones, and gates that hold workers.
 
-use crate::bundles::{bundle, checked};
+use crate::bundles::{bundle, checked, over_one};
 use crate::plain_logs::{Cells, plain_answer};
+use crate::same::{same, same_for};
 use log_check::{LogFault, LogRefusal, check_log};
 use log_file::FormFault;
 use puz_board::Board;
@@ -36,13 +37,30 @@ pub(crate) fn answer<R: Threads + Wait + AllocGlobal + Abort>(
     let board = Board::from_cells(numbers).expect(rt, "a board");
     let alone = check_log(rt, rt.alloc(), bundle, log, &board, 1, &OpenGate);
     for workers in [2, 7, 64] {
-        assert_eq!(rt;
-            check_log(rt, rt.alloc(), bundle, log, &board, workers, &OpenGate),
-            alone,
-            "{workers} workers"
+        same_for(
+            rt,
+            &check_log(rt, rt.alloc(), bundle, log, &board, workers, &OpenGate),
+            &alone,
+            &("workers", workers),
         );
     }
     alone
+}
+
+/// Checks what a log is answered for a board over a bundle.
+pub(crate) fn expect_answer<R: Threads + Wait + AllocGlobal + Abort>(
+    rt: &R,
+    bundle: &Bundle<'_>,
+    log: &[u8],
+    numbers: &[u8],
+    wanted: Result<u8, LogFault>,
+) {
+    same_for(
+        rt,
+        &answer(rt, bundle, log, numbers),
+        &wanted,
+        &(log, numbers),
+    );
 }
 
 pub(crate) fn refused(fault: LogRefusal) -> Result<u8, LogFault> {
@@ -71,13 +89,13 @@ fn good_logs_prove_their_bounds(rt: HostRuntime) {
     ];
     for (files, text, log, board, bound) in logs {
         let bundle = bundle(&rt, files, text);
-        assert_eq!(rt; answer(&rt, &bundle, log, &board), Ok(bound), "{log:?}");
+        expect_answer(&rt, &bundle, log, &board, Ok(bound));
     }
 }
 
 #[test]
 fn bytes_of_another_form_are_refused(rt: HostRuntime) {
-    let bundle = bundle(&rt, &[&TILES_12], b"set 0\n");
+    let bundle = over_one(&rt, &TILES_12);
     let changes: [(usize, u8, FormFault); 4] = [
         (9, 0, FormFault::L1),
         (9, 2, FormFault::L2(1)),
@@ -86,13 +104,13 @@ fn bytes_of_another_form_are_refused(rt: HostRuntime) {
     ];
     for (place, byte, fault) in changes {
         let log = with_byte(&LEAF, place, byte);
-        assert_eq!(rt; answer(&rt, &bundle, &log, &BOARD), misformed(fault));
+        expect_answer(&rt, &bundle, &log, &BOARD, misformed(fault));
     }
 }
 
 #[test]
 fn logs_of_another_length_are_refused(rt: HostRuntime) {
-    let bundle = bundle(&rt, &[&TILES_12], b"set 0\n");
+    let bundle = over_one(&rt, &TILES_12);
     let mut longer = [0; 31];
     longer[..30].copy_from_slice(&BRANCHES);
     let logs: [(&[u8], FormFault); 3] = [
@@ -101,24 +119,20 @@ fn logs_of_another_length_are_refused(rt: HostRuntime) {
         (&longer, FormFault::L2(1)),
     ];
     for (log, fault) in logs {
-        assert_eq!(rt; answer(&rt, &bundle, log, &BOARD), misformed(fault));
+        expect_answer(&rt, &bundle, log, &BOARD, misformed(fault));
     }
 }
 
 #[test]
 fn a_log_is_refused_at_each_length(rt: HostRuntime) {
-    let bundle = bundle(&rt, &[&TILES_12], b"set 0\n");
+    let bundle = over_one(&rt, &TILES_12);
     for len in 0..45 {
         let want = match len {
             0..10 => FormFault::L1,
             10..25 => FormFault::L2(0),
             _ => FormFault::L2(1),
         };
-        assert_eq!(rt;
-            answer(&rt, &bundle, &CITATION[..len], &BOARD),
-            misformed(want),
-            "{len} bytes"
-        );
+        expect_answer(&rt, &bundle, &CITATION[..len], &BOARD, misformed(want));
     }
 }
 
@@ -133,7 +147,7 @@ fn with_bytes(place: usize, bytes: &[u8; 4]) -> [u8; 20] {
 
 #[test]
 fn great_numbers_of_lemmas_and_tree_bytes_are_refused(rt: HostRuntime) {
-    let bundle = bundle(&rt, &[&TILES_123], b"set 0\n");
+    let bundle = over_one(&rt, &TILES_123);
     let logs: [(usize, [u8; 4], FormFault); 4] = [
         (6, [0x00, 0x10, 0x00, 0x00], FormFault::L2(1)),
         (6, [0x00, 0x10, 0x00, 0x01], FormFault::L1),
@@ -142,26 +156,19 @@ fn great_numbers_of_lemmas_and_tree_bytes_are_refused(rt: HostRuntime) {
     ];
     for (place, bytes, want) in logs {
         let log = with_bytes(place, &bytes);
-        assert_eq!(rt;
-            answer(&rt, &bundle, &log, &BOARD),
-            misformed(want),
-            "{bytes:?}"
-        );
+        expect_answer(&rt, &bundle, &log, &BOARD, misformed(want));
     }
 }
 
 #[test]
 fn the_deepest_tree_proves_the_greatest_bound(rt: HostRuntime) -> Result<(), Fail> {
-    let bundle = bundle(&rt, &[&TILE_1], b"set 0\n");
+    let bundle = over_one(&rt, &TILE_1);
     let board = [0, 1, 3, 2];
     let log = deepest(rt.alloc())?;
-    assert_eq!(rt; log.len(), 530);
-    assert_eq!(rt; answer(&rt, &bundle, &log, &board), Ok(255));
+    same(&rt, &log.len(), &530);
+    expect_answer(&rt, &bundle, &log, &board, Ok(255));
     let log = too_deep(rt.alloc())?;
-    assert_eq!(rt;
-        answer(&rt, &bundle, &log, &board),
-        refused(LogRefusal::L6(0))
-    );
+    expect_answer(&rt, &bundle, &log, &board, refused(LogRefusal::L6(0)));
     Ok(())
 }
 
@@ -188,18 +195,14 @@ fn logs_bundles_and_boards_have_one_side(rt: HostRuntime) {
         ),
     ];
     for (table, log, board, fault) in logs {
-        let bundle = bundle(&rt, &[table], b"set 0\n");
-        assert_eq!(rt;
-            answer(&rt, &bundle, log, board),
-            refused(fault),
-            "{log:?}, {board:?}"
-        );
+        let bundle = over_one(&rt, table);
+        expect_answer(&rt, &bundle, log, board, refused(fault));
     }
 }
 
 #[test]
 fn the_last_lemma_is_of_the_board(rt: HostRuntime) {
-    let bundle = bundle(&rt, &[&TILES_12], b"set 0\n");
+    let bundle = over_one(&rt, &TILES_12);
     let logs: [(&[u8], Cells); 3] = [
         (&LEAF, [3, 0, 1, 2]),
         (&CITATION, [3, 0, 1, 2]),
@@ -207,24 +210,16 @@ fn the_last_lemma_is_of_the_board(rt: HostRuntime) {
         (&LEAF, [3, 2, 0, 1]),
     ];
     for (log, board) in logs {
-        assert_eq!(rt;
-            answer(&rt, &bundle, log, &board),
-            refused(LogRefusal::L5),
-            "{log:?}, {board:?}"
-        );
+        expect_answer(&rt, &bundle, log, &board, refused(LogRefusal::L5));
     }
 }
 
 #[test]
 fn a_changed_leaf_is_bad(rt: HostRuntime) {
-    let bundle = bundle(&rt, &[&TILES_123], b"set 0\n");
+    let bundle = over_one(&rt, &TILES_123);
     for (place, byte) in [(14, 7), (19, 2), (19, 0x11), (19, 0)] {
         let log = with_byte(&LEAF, place, byte);
-        assert_eq!(rt;
-            answer(&rt, &bundle, &log, &BOARD),
-            refused(LogRefusal::L6(0)),
-            "{log:?}"
-        );
+        expect_answer(&rt, &bundle, &log, &BOARD, refused(LogRefusal::L6(0)));
     }
 }
 
@@ -252,21 +247,20 @@ fn the_first_bad_lemma_is_named(rt: HostRuntime) {
         (&TILES_12, &with_byte(&cites_itself, 14, 6), BOARD, 0),
     ];
     for (table, log, board, lemma) in logs {
-        let bundle = bundle(&rt, &[table], b"set 0\n");
-        assert_eq!(rt;
-            answer(&rt, &bundle, log, &board),
-            refused(LogRefusal::L6(lemma)),
-            "{log:?}"
-        );
+        let bundle = over_one(&rt, table);
+        expect_answer(&rt, &bundle, log, &board, refused(LogRefusal::L6(lemma)));
     }
 }
 
 #[test]
 fn a_transposed_member_adds_no_more_than_its_tiles_cost(rt: HostRuntime) {
     let bundle = bundle(&rt, &[&TILE_1], b"set 0 0t\n");
-    assert_eq!(rt;
-        answer(&rt, &bundle, &with_byte(&LEAF, 14, 5), &BOARD),
-        refused(LogRefusal::L6(0))
+    expect_answer(
+        &rt,
+        &bundle,
+        &with_byte(&LEAF, 14, 5),
+        &BOARD,
+        refused(LogRefusal::L6(0)),
     );
 }
 
@@ -280,7 +274,11 @@ fn no_bundle_comes_of_other_sets(rt: HostRuntime) {
         (&[&TILES_12, &TILE_3], b"set 0\nset 1 0\n", SetFault::S1(1)),
     ];
     for (files, text, fault) in sets {
-        assert_eq!(rt; Bundle::read(checked(&rt, files), text).err(), Some(fault));
+        same(
+            &rt,
+            &Bundle::read(checked(&rt, files), text).err(),
+            &Some(fault),
+        );
     }
 }
 
@@ -305,7 +303,7 @@ fn chain(alloc: Global, count: u32, spoilt: &[u32]) -> Result<Vec<u8>, AllocErro
 
 #[test]
 fn chains_of_citations_are_checked(rt: HostRuntime) -> Result<(), Fail> {
-    let bundle = bundle(&rt, &[&TILES_123], b"set 0\n");
+    let bundle = over_one(&rt, &TILES_123);
     // The lemmas, those that are spoilt, and the one that is named.
     let chains: [(u32, &[u32], Option<u32>); 9] = [
         (1, &[], None),
@@ -324,57 +322,51 @@ fn chains_of_citations_are_checked(rt: HostRuntime) -> Result<(), Fail> {
             Some(lemma) => refused(LogRefusal::L6(lemma)),
             None => Ok(6),
         };
-        assert_eq!(rt;
-            answer(&rt, &bundle, &log, &BOARD),
-            want,
-            "{count}, {spoilt:?}"
-        );
+        expect_answer(&rt, &bundle, &log, &BOARD, want);
     }
     Ok(())
 }
 
 #[test]
 fn the_bound_is_the_last_lemmas(rt: HostRuntime) -> Result<(), Fail> {
-    let bundle = bundle(&rt, &[&TILES_123], b"set 0\n");
+    let bundle = over_one(&rt, &TILES_123);
     let mut log = chain(rt.alloc(), 300, &[])?;
     // The last lemma takes 14 bytes.
     let place = log.len().saturating_sub(10);
     if let Some(bound) = log.get_mut(place) {
         *bound = 2;
     }
-    assert_eq!(rt; answer(&rt, &bundle, &log, &BOARD), Ok(2));
+    expect_answer(&rt, &bundle, &log, &BOARD, Ok(2));
     Ok(())
 }
 
 #[test]
 fn a_later_lemma_is_not_cited(rt: HostRuntime) -> Result<(), Fail> {
-    let bundle = bundle(&rt, &[&TILES_123], b"set 0\n");
+    let bundle = over_one(&rt, &TILES_123);
     let mut log = chain(rt.alloc(), 3, &[])?;
     // Lemma 1 begins at byte 20, and its tree cites with the last of its 14 bytes.
     if let Some(cited) = log.get_mut(33) {
         *cited = 2;
     }
-    assert_eq!(rt;
-        answer(&rt, &bundle, &log, &BOARD),
-        refused(LogRefusal::L6(1))
-    );
+    expect_answer(&rt, &bundle, &log, &BOARD, refused(LogRefusal::L6(1)));
     Ok(())
 }
 
 #[test]
 fn each_lemma_is_entered_once(rt: HostRuntime) -> Result<(), Fail> {
-    let bundle = bundle(&rt, &[&TILES_123], b"set 0\n");
+    let bundle = over_one(&rt, &TILES_123);
     let board = Board::from_cells(&BOARD).expect(&rt, "a board");
     let file = chain(rt.alloc(), 300, &[])?;
     for workers in [1, 2, 7, 64] {
         let entered = Log::new(rt.alloc(), 400)?;
-        assert_eq!(rt;
-            check_log(&rt, rt.alloc(), &bundle, &file, &board, workers, &entered),
-            Ok(6)
+        same(
+            &rt,
+            &check_log(&rt, rt.alloc(), &bundle, &file, &board, workers, &entered),
+            &Ok(6),
         );
         let mut lemmas = entered.notes(rt.alloc())?;
         lemmas.sort()?;
-        assert_eq!(rt; lemmas.len(), 300, "{workers} workers");
+        same_for(&rt, &lemmas.len(), &300, &("workers", workers));
         assert!(rt; (0..).zip(&lemmas).all(|(lemma, entered)| lemma == *entered));
     }
     Ok(())
@@ -382,39 +374,42 @@ fn each_lemma_is_entered_once(rt: HostRuntime) -> Result<(), Fail> {
 
 #[test]
 fn lemmas_behind_a_bad_one_are_not_entered(rt: HostRuntime) -> Result<(), Fail> {
-    let bundle = bundle(&rt, &[&TILES_12], b"set 0\n");
+    let bundle = over_one(&rt, &TILES_12);
     let board = Board::from_cells(&BOARD).expect(&rt, "a board");
     let file = with_byte(&CITATION, 14, 6);
     let entered = Log::new(rt.alloc(), 2)?;
-    assert_eq!(rt;
-        check_log(&rt, rt.alloc(), &bundle, &file, &board, 1, &entered),
-        refused(LogRefusal::L6(0))
+    same(
+        &rt,
+        &check_log(&rt, rt.alloc(), &bundle, &file, &board, 1, &entered),
+        &refused(LogRefusal::L6(0)),
     );
-    assert_eq!(rt; entered.notes(rt.alloc())?.as_slice(), [0].as_slice());
+    same(&rt, &entered.notes(rt.alloc())?.as_slice(), &[0].as_slice());
     Ok(())
 }
 
 #[test]
 fn a_lemma_is_checked_while_one_before_it_waits(rt: HostRuntime) {
-    let bundle = bundle(&rt, &[&TILES_12], b"set 0\n");
+    let bundle = over_one(&rt, &TILES_12);
     let board = Board::from_cells(&BOARD).expect(&rt, "a board");
     let gate = HoldingGate::new(&[0], &[1]);
-    assert_eq!(rt;
-        check_log(&rt, rt.alloc(), &bundle, &CITATION, &board, 2, &gate),
-        Ok(6)
+    same(
+        &rt,
+        &check_log(&rt, rt.alloc(), &bundle, &CITATION, &board, 2, &gate),
+        &Ok(6),
     );
     assert!(rt; gate.saw_all());
 }
 
 #[test]
 fn four_workers_check_four_lemmas_side_by_side(rt: HostRuntime) -> Result<(), Fail> {
-    let bundle = bundle(&rt, &[&TILES_123], b"set 0\n");
+    let bundle = over_one(&rt, &TILES_123);
     let board = Board::from_cells(&BOARD).expect(&rt, "a board");
     let log = chain(rt.alloc(), 5, &[2])?;
     let gate = HoldingGate::new(&[0, 1, 2, 3], &[0, 1, 2, 3]);
-    assert_eq!(rt;
-        check_log(&rt, rt.alloc(), &bundle, &log, &board, 4, &gate),
-        refused(LogRefusal::L6(2))
+    same(
+        &rt,
+        &check_log(&rt, rt.alloc(), &bundle, &log, &board, 4, &gate),
+        &refused(LogRefusal::L6(2)),
     );
     assert!(rt; gate.saw_all());
     Ok(())
@@ -423,13 +418,13 @@ fn four_workers_check_four_lemmas_side_by_side(rt: HostRuntime) -> Result<(), Fa
 // Run with each allocation behind those of the bundle refused in turn.
 #[test]
 fn want_of_memory_is_answered_and_a_second_check_finds_the_bound(rt: HostRuntime) {
-    let bundle = bundle(&rt, &[&TILES_12], b"set 0\n");
+    let bundle = over_one(&rt, &TILES_12);
     let board = Board::from_cells(&BOARD).expect(&rt, "a board");
     let mut bound = check_log(&rt, rt.alloc(), &bundle, &CITATION, &board, 7, &OpenGate);
     if bound == Err(LogFault::Memory) {
         bound = check_log(&rt, rt.alloc(), &bundle, &CITATION, &board, 7, &OpenGate);
     }
-    assert_eq!(rt; bound, Ok(6));
+    same(&rt, &bound, &Ok(6));
 }
 
 /// Compares what is answered of a log with what a plain reading answers.
@@ -441,10 +436,11 @@ pub(crate) fn compare<R: Threads + Wait + AllocGlobal + Abort>(
     numbers: &Cells,
 ) {
     let board = Board::from_cells(numbers).expect(rt, "a board");
-    assert_eq!(rt;
-        check_log(rt, rt.alloc(), bundle, log, &board, 1, &OpenGate),
-        plain_answer(log, numbers, tiles).or_else(refused),
-        "{log:?}"
+    same_for(
+        rt,
+        &check_log(rt, rt.alloc(), bundle, log, &board, 1, &OpenGate),
+        &plain_answer(log, numbers, tiles).or_else(refused),
+        &log,
     );
 }
 
@@ -456,7 +452,7 @@ pub(crate) fn compare_changed<R: Threads + Wait + AllocGlobal + Abort, const N: 
     log: &[u8; N],
     numbers: &Cells,
 ) {
-    let bundle = bundle(rt, &[table], b"set 0\n");
+    let bundle = over_one(rt, table);
     for place in 0..N {
         for byte in 0..=255 {
             let changed = with_byte(log, place, byte);

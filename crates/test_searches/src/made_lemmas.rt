@@ -1,8 +1,9 @@
 //! Logs of many lemmas.
 
 use crate::boards::BOARDS_OF_SIDE_3;
-use crate::bundles::{bundle, folded_bundle};
-use crate::finding::{board_of, bound_of, built, halves_of_side_3};
+use crate::bundles::{bundle, folded_bundle, over_one};
+use crate::finding::{board_of, bound_of, built, halves_of_side_3, tables_of_side_4};
+use crate::same::{same, same_for};
 use log_check::LogFault;
 use puz_board::replay;
 use puz_make::{Found, Limits, MakeFault, solve_within};
@@ -75,10 +76,11 @@ fn expect_proved<R: Threads + Wait + AllocGlobal + Abort>(
         replay(&board, &found.moves) == Ok(u16::from(moves)),
         "{numbers:?}"
     );
-    assert_eq!(rt;
-        bound_of(rt, bundle, numbers, &found.log),
-        Ok(moves),
-        "{numbers:?}"
+    same_for(
+        rt,
+        &bound_of(rt, bundle, numbers, &found.log),
+        &Ok(moves),
+        &numbers,
     );
 }
 
@@ -121,8 +123,8 @@ fn expect_many_if_large<R: Threads + Wait + AllocGlobal + Abort>(
     bytes: usize,
 ) {
     let (lemmas, tree) = expect_good_log(rt, bundle, numbers, moves, &Limits::USUAL);
-    assert_eq!(rt; tree, bytes, "{numbers:?}");
-    assert_eq!(rt; lemmas > 1, tree >= FROM_MANY, "{numbers:?}");
+    same_for(rt, &tree, &bytes, &numbers);
+    same_for(rt, &(lemmas > 1), &(tree >= FROM_MANY), &numbers);
 }
 
 #[test]
@@ -151,8 +153,8 @@ const TREES_OF_SIDE_3: [usize; 40] = [
 
 #[test]
 fn logs_of_large_trees_of_side_3_have_many_lemmas(rt: HostRuntime) -> Result<(), Fail> {
-    let three = built(&rt, 3, 14).expect(&rt, "a table");
-    let bundle = bundle(&rt, &[&three], b"set 0\n");
+    let three = built(&rt, 3, 14);
+    let bundle = over_one(&rt, &three);
     let search = LeastCosts::new(rt.alloc(), &[1, 2, 3, 4, 5, 6, 7, 8])?;
     for (numbers, bytes) in BOARDS_OF_SIDE_3.iter().zip(&TREES_OF_SIDE_3) {
         expect_many_if_large(&rt, &bundle, numbers, search.of(numbers), *bytes);
@@ -224,17 +226,6 @@ const NEAR_BOARDS: [Near; 10] = [
     },
 ];
 
-/// The tables of side 4 for the tiles 1 to 3, for 5 to 7, and for 10, 11 and 15.
-fn tables_of_side_4<R: Threads + Sync + AllocGlobal + Abort>(
-    rt: &R,
-) -> (Vec<u8>, Vec<u8>, Vec<u8>) {
-    (
-        built(rt, 4, 14).expect(rt, "a table"),
-        built(rt, 4, 224).expect(rt, "a table"),
-        built(rt, 4, 35840).expect(rt, "a table"),
-    )
-}
-
 #[test]
 fn logs_of_large_trees_of_side_4_have_many_lemmas(rt: HostRuntime) {
     let (first, second, third) = tables_of_side_4(&rt);
@@ -268,7 +259,7 @@ fn a_log_has_no_more_lemmas_than_it_may(rt: HostRuntime) {
         };
         let found = found_within(&rt, &bundle, &near.numbers, &limits).expect(&rt, "a solution");
         expect_proved(&rt, &bundle, &near.numbers, &found, near.moves);
-        assert_eq!(rt; lemmas_of(&found.log), lemmas);
+        same(&rt, &lemmas_of(&found.log), &lemmas);
     }
 }
 
@@ -276,10 +267,10 @@ fn a_log_has_no_more_lemmas_than_it_may(rt: HostRuntime) {
 #[test]
 fn the_usual_limits_are_those_of_a_log(rt: HostRuntime) {
     let usual = Limits::USUAL;
-    assert_eq!(rt; usual.tree, (1 << 30) - 40);
-    assert_eq!(rt; usual.early_tree, 1 << 28);
-    assert_eq!(rt; usual.lemmas, 1 << 20);
-    assert_eq!(rt; usual.one_lemma_below, FROM_MANY);
+    same(&rt, &usual.tree, &((1 << 30) - 40));
+    same(&rt, &usual.early_tree, &(1 << 28));
+    same(&rt, &usual.lemmas, &(1 << 20));
+    same(&rt, &usual.one_lemma_below, &FROM_MANY);
 }
 
 #[test]
@@ -301,14 +292,14 @@ fn a_tree_of_more_bytes_than_a_log_may_have_is_refused(rt: HostRuntime) {
             expect_proved(&rt, &bundle, &near.numbers, found, near.moves);
             assert!(rt; lemmas_of(&found.log) > 1);
         }
-        assert_eq!(rt; found.err(), fault, "{tree}");
+        same_for(&rt, &found.err(), &fault, &tree);
     }
 }
 
 // The tree of the known log has five nodes, and the search of the next threshold writes six branches and more.
 #[test]
 fn trees_that_pass_a_limit_are_left_out_until_they_are_needed(rt: HostRuntime) {
-    let two = bundle(&rt, &[&TILES_12], b"set 0\n");
+    let two = over_one(&rt, &TILES_12);
     let cases = [
         (5, 5, None),
         (4, 5, None),
@@ -325,14 +316,14 @@ fn trees_that_pass_a_limit_are_left_out_until_they_are_needed(rt: HostRuntime) {
         if let Ok(found) = &found {
             assert!(rt; found.log.as_slice() == BY_PARITY.as_slice());
         }
-        assert_eq!(rt; found.err(), fault, "{early_tree} {tree}");
+        same_for(&rt, &found.err(), &fault, &(early_tree, tree));
     }
 }
 
 // The search expands nine boards, as without limits: those that are expanded again for the tree don't count.
 #[test]
 fn boards_that_are_expanded_again_do_not_count(rt: HostRuntime) {
-    let two = bundle(&rt, &[&TILES_12], b"set 0\n");
+    let two = over_one(&rt, &TILES_12);
     let board = board_of(&rt, &[3, 2, 1, 0]);
     let limits = Limits {
         early_tree: 0,
@@ -341,7 +332,7 @@ fn boards_that_are_expanded_again_do_not_count(rt: HostRuntime) {
     for (budget, fault) in [(8, Some(MakeFault::K1)), (9, None)] {
         assert!(rt; board.side() == two.side());
         let found = solve_within(rt.alloc(), &two, &board, budget, &limits);
-        assert_eq!(rt; found.err(), fault, "{budget}");
+        same_for(&rt, &found.err(), &fault, &budget);
     }
 }
 
@@ -349,11 +340,11 @@ fn boards_that_are_expanded_again_do_not_count(rt: HostRuntime) {
 // answered and a later call isn't hurt.
 #[test]
 fn a_log_is_good_where_memory_was_refused(rt: HostRuntime) {
-    let all = bundle(&rt, &[&TILES_12], b"set 0\n");
+    let all = over_one(&rt, &TILES_12);
     let numbers = [3, 2, 1, 0];
     let found = match found_within(&rt, &all, &numbers, &ALWAYS) {
         Err(fault) => {
-            assert_eq!(rt; fault, MakeFault::Memory);
+            same(&rt, &fault, &MakeFault::Memory);
             found_within(&rt, &all, &numbers, &ALWAYS)
         }
         found => found,
@@ -363,5 +354,5 @@ fn a_log_is_good_where_memory_was_refused(rt: HostRuntime) {
         Err(LogFault::Memory) => bound_of(&rt, &all, &numbers, &found.log),
         bound => bound,
     };
-    assert_eq!(rt; bound, Ok(6));
+    same(&rt, &bound, &Ok(6));
 }

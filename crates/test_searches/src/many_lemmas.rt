@@ -1,7 +1,8 @@
 //! Logs of many lemmas, checked whole.
 
-use crate::bundles::bundle;
-use crate::logs::{BOARD, refused};
+use crate::bundles::over_one;
+use crate::logs::{BOARD, answer, refused};
+use crate::same::same_for;
 use log_check::{LogFault, LogRefusal, check_log};
 use puz_board::Board;
 use std::alloc::{AllocError, Global};
@@ -43,7 +44,7 @@ fn spoilt(alloc: Global, lemma: u32) -> Result<Vec<u8>, AllocError> {
 
 #[test]
 fn logs_of_70_000_lemmas_are_checked(rt: HostRuntime) -> Result<(), Fail> {
-    let bundle = bundle(&rt, &[&TILES_123], b"set 0\n");
+    let bundle = over_one(&rt, &TILES_123);
     let board = Board::from_cells(&BOARD).expect(&rt, "a board");
     let good = many(rt.alloc())?;
     let last = spoilt(rt.alloc(), MANY - 1)?;
@@ -56,7 +57,7 @@ fn logs_of_70_000_lemmas_are_checked(rt: HostRuntime) -> Result<(), Fail> {
     for (log, want) in logs {
         for workers in [1, 7] {
             let answer = check_log(&rt, rt.alloc(), &bundle, log, &board, workers, &OpenGate);
-            assert_eq!(rt; answer, want, "{workers} workers");
+            same_for(&rt, &answer, &want, &("workers", workers));
         }
     }
     Ok(())

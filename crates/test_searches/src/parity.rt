@@ -1,7 +1,7 @@
 //! Logs of both versions, and leaves by parity, which version 2 alone has.
 
-use crate::bundles::bundle;
-use crate::logs::{BOARD, answer, compare, compare_changed, misformed, refused};
+use crate::bundles::{bundle, over_one};
+use crate::logs::{BOARD, compare, compare_changed, expect_answer, misformed, refused};
 use crate::plain_logs::Cells;
 use log_check::{LogFault, LogRefusal};
 use log_file::FormFault;
@@ -31,7 +31,7 @@ fn leaf(version: u8, bound: u8, node: u8) -> [u8; 20] {
 #[test]
 fn leaves_by_parity_prove_what_other_leaves_do_not(rt: HostRuntime) {
     // The set says 3 of the boards of both leaves, and 4 moves are wanted of them.
-    let bundle = bundle(&rt, &[&TILES_12], b"set 0\n");
+    let bundle = over_one(&rt, &TILES_12);
     let logs: [([u8; 24], Result<u8, LogFault>); 6] = [
         (BY_PARITY, Ok(6)),
         (with_byte(&BY_PARITY, 21, 0x01), refused(LogRefusal::L6(0))),
@@ -44,13 +44,13 @@ fn leaves_by_parity_prove_what_other_leaves_do_not(rt: HostRuntime) {
         (with_byte(&BY_PARITY, VERSION, 3), misformed(FormFault::L1)),
     ];
     for (log, want) in logs {
-        assert_eq!(rt; answer(&rt, &bundle, &log, &BOARD), want, "{log:?}");
+        expect_answer(&rt, &bundle, &log, &BOARD, want);
     }
 }
 
 #[test]
 fn a_sum_of_the_right_parity_is_not_raised(rt: HostRuntime) {
-    let bundle = bundle(&rt, &[&TILES_123], b"set 0\n");
+    let bundle = over_one(&rt, &TILES_123);
     let logs: [([u8; 20], Result<u8, LogFault>); 4] = [
         (leaf(2, 6, 0x41), Ok(6)),
         (leaf(2, 7, 0x41), refused(LogRefusal::L6(0))),
@@ -59,24 +59,24 @@ fn a_sum_of_the_right_parity_is_not_raised(rt: HostRuntime) {
         (leaf(2, 6, 0x42), refused(LogRefusal::L6(0))),
     ];
     for (log, want) in logs {
-        assert_eq!(rt; answer(&rt, &bundle, &log, &BOARD), want, "{log:?}");
+        expect_answer(&rt, &bundle, &log, &BOARD, want);
     }
 }
 
 #[test]
 fn version_2_has_the_trees_of_version_1(rt: HostRuntime) {
-    let twelve = bundle(&rt, &[&TILES_12], b"set 0\n");
-    let all = bundle(&rt, &[&TILES_123], b"set 0\n");
+    let twelve = over_one(&rt, &TILES_12);
+    let all = over_one(&rt, &TILES_123);
     let leaf = with_byte(&LEAF, VERSION, 2);
     let branches = with_byte(&BRANCHES, VERSION, 2);
     let citation = with_byte(&CITATION, VERSION, 2);
     let unsolvable = with_byte(&UNSOLVABLE, VERSION, 2);
-    assert_eq!(rt; answer(&rt, &all, &leaf, &BOARD), Ok(6));
-    assert_eq!(rt; answer(&rt, &twelve, &branches, &BOARD), Ok(6));
-    assert_eq!(rt; answer(&rt, &twelve, &citation, &BOARD), Ok(6));
-    assert_eq!(rt; answer(&rt, &all, &unsolvable, &[0, 1, 3, 2]), Ok(255));
+    expect_answer(&rt, &all, &leaf, &BOARD, Ok(6));
+    expect_answer(&rt, &twelve, &branches, &BOARD, Ok(6));
+    expect_answer(&rt, &twelve, &citation, &BOARD, Ok(6));
+    expect_answer(&rt, &all, &unsolvable, &[0, 1, 3, 2], Ok(255));
     let by_parity = with_byte(&unsolvable, NODE, 0x41);
-    assert_eq!(rt; answer(&rt, &all, &by_parity, &[0, 1, 3, 2]), Ok(255));
+    expect_answer(&rt, &all, &by_parity, &[0, 1, 3, 2], Ok(255));
 }
 
 #[test]
@@ -95,11 +95,7 @@ fn each_set_has_a_leaf_of_either_kind(rt: HostRuntime) -> Result<(), Fail> {
             } else {
                 refused(LogRefusal::L6(0))
             };
-            assert_eq!(rt;
-                answer(&rt, &bundle, &leaf(2, 6, node), &BOARD),
-                want,
-                "{sets} sets, byte {node}"
-            );
+            expect_answer(&rt, &bundle, &leaf(2, 6, node), &BOARD, want);
         }
     }
     Ok(())
@@ -114,7 +110,7 @@ fn leaves_of_each_board_are_answered_as_read_plainly(rt: HostRuntime) {
         (&TILES_123, &[1, 2, 3]),
     ];
     for (table, tiles) in tables {
-        let bundle = bundle(&rt, &[table], b"set 0\n");
+        let bundle = over_one(&rt, table);
         for board in RING {
             for bound in 0..=8 {
                 for node in [0x01, 0x41] {
@@ -135,7 +131,7 @@ fn compare_leaves<R: Threads + Wait + AllocGlobal + Abort, const N: usize>(
     log: &[u8; N],
     numbers: &Cells,
 ) {
-    let bundle = bundle(rt, &[table], b"set 0\n");
+    let bundle = over_one(rt, table);
     for version in [1, 2] {
         let log = with_byte(log, VERSION, version);
         for place in 0..N {

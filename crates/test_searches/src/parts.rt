@@ -1,6 +1,8 @@
 //! Searches of the parts of a bound.
 
+use crate::finding::searched_table;
 use crate::guided::{expanded, of_strings, reversals, scrambled};
+use crate::same::{same, same_for};
 use crate::small_searches::{Told, bundle, searched, tell, with_two_exchanged};
 use crate::starts::start_of;
 use move_strings::{Automaton, BoundPart};
@@ -60,7 +62,7 @@ fn told<R: Threads + Wait + Sync + AllocGlobal + Abort>(
         };
         let answer = tell(rt, board, answer);
         let before = *first.get_or_insert(answer);
-        assert_eq!(rt; answer, before, "{count} workers");
+        same_for(rt, &answer, &before, &("workers", count));
     }
     first.expect(rt, "an answer")
 }
@@ -95,7 +97,7 @@ fn find_in_each<R: Threads + Wait + Sync + AllocGlobal + Abort>(rt: &R, bundle: 
     for (count, _) in &COUNTS {
         for index in 0..*count {
             let claim = part_of(rt, 7, index, *count);
-            assert_eq!(rt; told(rt, led, &board, &claim, 100), Told::Solved(6));
+            same(rt, &told(rt, led, &board, &claim, 100), &Told::Solved(6));
         }
         boards_of_all(rt, led, &board, 6, *count);
     }
@@ -147,10 +149,11 @@ fn compare_counts<R: Threads + Wait + Sync + AllocGlobal + Abort>(
         let above = expanded(rt.alloc(), bundle, &board, u64::from(bound), *letters)?;
         assert!(rt; above < whole, "boards behind the last letter");
         let more = above.saturating_mul(u64::from(*count).saturating_sub(1));
-        assert_eq!(rt;
-            boards_of_all(rt, led, &board, bound, *count),
-            whole.saturating_add(more),
-            "{count} parts"
+        same_for(
+            rt,
+            &boards_of_all(rt, led, &board, bound, *count),
+            &whole.saturating_add(more),
+            &("parts", count),
         );
     }
     Ok(whole)
@@ -158,7 +161,7 @@ fn compare_counts<R: Threads + Wait + Sync + AllocGlobal + Abort>(
 
 #[test]
 fn all_parts_expand_the_boards_of_the_whole_search(rt: HostRuntime) -> Result<(), Fail> {
-    let file = LeastCosts::new(rt.alloc(), &[1, 2, 3])?.table(rt.alloc())?;
+    let file = searched_table(rt.alloc(), &[1, 2, 3])?;
     let bundle = bundle(&rt, &file);
     compare_counts(&rt, &bundle, &NUMBERS, 18, &COUNTS)?;
     Ok(())
@@ -166,7 +169,7 @@ fn all_parts_expand_the_boards_of_the_whole_search(rt: HostRuntime) -> Result<()
 
 #[test]
 fn parts_that_workers_share_expand_the_same_boards(rt: HostRuntime) -> Result<(), Fail> {
-    let file = LeastCosts::new(rt.alloc(), &[4])?.table(rt.alloc())?;
+    let file = searched_table(rt.alloc(), &[4])?;
     let bundle = bundle(&rt, &file);
     let boards = compare_counts(&rt, &bundle, &FARTHEST, 25, &[(1, 13), (3, 13)])?;
     // More than one thread searches alone, in each of three parts.
@@ -186,12 +189,13 @@ fn spend_all<R: Threads + Wait + Sync + AllocGlobal + Abort>(rt: &R, bundle: &Bu
     match told(rt, led, &board, &claim, 1 << 40) {
         Told::Refuted(boards) => {
             assert!(rt; boards > 0);
-            assert_eq!(rt;
-                told(rt, led, &board, &claim, boards),
-                Told::Refuted(boards)
+            same(
+                rt,
+                &told(rt, led, &board, &claim, boards),
+                &Told::Refuted(boards),
             );
             let short = boards.saturating_sub(1);
-            assert_eq!(rt; told(rt, led, &board, &claim, short), Told::Spent);
+            same(rt, &told(rt, led, &board, &claim, short), &Told::Spent);
         }
         Told::Solved(_) | Told::Spent => panic!(rt; "refuted"),
     }
@@ -199,7 +203,7 @@ fn spend_all<R: Threads + Wait + Sync + AllocGlobal + Abort>(rt: &R, bundle: &Bu
 
 #[test]
 fn a_budget_of_just_the_boards_of_a_part_is_enough(rt: HostRuntime) -> Result<(), Fail> {
-    let file = LeastCosts::new(rt.alloc(), &[1, 2, 3])?.table(rt.alloc())?;
+    let file = searched_table(rt.alloc(), &[1, 2, 3])?;
     let bundle = bundle(&rt, &file);
     spend_all(&rt, &bundle);
     Ok(())
@@ -326,7 +330,7 @@ fn count_found<R: Threads + Wait + Sync + AllocGlobal + Abort>(
         let claim = part_of(rt, bound, index, sample.count);
         match told(rt, led, &sample.board, &claim, 1 << 40) {
             Told::Solved(moves) => {
-                assert_eq!(rt; moves, u16::from(sample.moves));
+                same(rt, &moves, &u16::from(sample.moves));
                 assert!(rt; sample.has(index), "{index} has a solution");
                 found = found.saturating_add(1);
             }
@@ -374,7 +378,7 @@ fn is_told_alone<R: Threads + Wait + Sync + AllocGlobal + Abort>(
     boards_of_all(rt, known.reversing, board, moves, count);
     let is_alone = tells && ways.len() == 1 && count > 1;
     if is_alone {
-        assert_eq!(rt; found, 1);
+        same(rt, &found, &1);
     }
     Ok(is_alone)
 }
@@ -415,7 +419,7 @@ fn refute_false_bounds<R: Threads + Wait + Sync + AllocGlobal + Abort>(
 
 #[test]
 fn false_bounds_are_refuted_in_parts_without_a_solution_alone(rt: HostRuntime) -> Result<(), Fail> {
-    let file = LeastCosts::new(rt.alloc(), &[1, 2, 3, 4])?.table(rt.alloc())?;
+    let file = searched_table(rt.alloc(), &[1, 2, 3, 4])?;
     let bundle = bundle(&rt, &file);
     let alone = refute_false_bounds(&rt, &bundle)?;
     assert!(rt; alone > 5, "{alone} boards with one shortest solution");

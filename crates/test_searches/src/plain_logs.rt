@@ -250,14 +250,13 @@ fn way_of_blank(board: &Cells) -> usize {
 
 /// How many of the moves round the ring, from one place to another, move one of the tiles.
 fn tile_moves(tiles: &[u8], ring: &[Cells; 12], from: usize, to: usize) -> usize {
-    let next = ring.iter().cycle().skip(1);
-    ring.iter()
-        .zip(next)
-        .enumerate()
-        .filter(|(place, (board, after))| from <= *place
-            && *place < to
-            && tiles.contains(&moved_tile(board, after)))
-        .count()
+    let mut moves: usize = 0;
+    for place in from..to {
+        if tiles.contains(&moved_tile(&ring[place % 12], &ring[(place + 1) % 12])) {
+            moves = moves.saturating_add(1);
+        }
+    }
+    moves
 }
 
 /// The tile that was where the blank is after a move.

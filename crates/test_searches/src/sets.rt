@@ -1,6 +1,7 @@
 //! Worked sets over known tables of side 2, and what is refused.
 
 use crate::bundles::checked;
+use crate::same::{same, same_for};
 use puz_board::Board;
 use set_sum::{Bundle, Member, SetFault};
 use std::alloc::Global;
@@ -18,6 +19,16 @@ fn fault<R: Threads + Wait + AllocGlobal + Abort>(
     text: &[u8],
 ) -> Option<SetFault> {
     Bundle::read(checked(rt, files), text).err()
+}
+
+/// Checks why files and a set text make no bundle, or that they make one.
+fn expect_fault<R: Threads + Wait + AllocGlobal + Abort>(
+    rt: &R,
+    files: &[&[u8]],
+    text: &[u8],
+    wanted: Option<SetFault>,
+) {
+    same_for(rt, &fault(rt, files, text), &wanted, &(text, files.len()));
 }
 
 /// The sum of a set for a board.
@@ -85,10 +96,11 @@ const SUMS: [Sum; 9] = [
 #[test]
 fn tables_of_a_set_add_up(rt: HostRuntime) {
     for (files, text, set, numbers, want) in SUMS {
-        assert_eq!(rt;
-            sum(&rt, files, text, set, &numbers),
-            Some(want),
-            "{text:?}, {numbers:?}"
+        same_for(
+            &rt,
+            &sum(&rt, files, text, set, &numbers),
+            &Some(want),
+            &(text, numbers),
         );
     }
 }
@@ -103,6 +115,16 @@ fn sizes<R: Threads + Wait + AllocGlobal + Abort>(
     Some((bundle.side().get(), bundle.tables(), bundle.sets()))
 }
 
+/// Checks the side, the tables and the sets of a bundle.
+fn expect_sizes<R: Threads + Wait + AllocGlobal + Abort>(
+    rt: &R,
+    files: &[&[u8]],
+    text: &[u8],
+    wanted: (u8, u8, u8),
+) {
+    same_for(rt, &sizes(rt, files, text), &Some(wanted), &text);
+}
+
 #[test]
 fn sides_tables_and_sets_are_counted(rt: HostRuntime) {
     let bundles: [(&[&[u8]], &[u8], (u8, u8, u8)); 3] = [
@@ -115,7 +137,7 @@ fn sides_tables_and_sets_are_counted(rt: HostRuntime) {
         ),
     ];
     for (files, text, want) in bundles {
-        assert_eq!(rt; sizes(&rt, files, text), Some(want), "{text:?}");
+        expect_sizes(&rt, files, text, want);
     }
 }
 
@@ -171,7 +193,7 @@ fn tables_and_sets_are_those_that_were_read(rt: HostRuntime) {
     let files: [&[u8]; 2] = [&TILES_12, &TILE_3];
     let text = b"set 0 1\nset 1\nset 0t 1\n";
     for (number, tiles) in [(0, 6), (1, 8)] {
-        assert_eq!(rt; mask(&rt, &files, text, number), Some(tiles));
+        same(&rt, &mask(&rt, &files, text, number), &Some(tiles));
     }
     let sets: [(u8, &[Member]); 3] = [
         (0, &[plain(0), plain(1)]),
@@ -179,7 +201,7 @@ fn tables_and_sets_are_those_that_were_read(rt: HostRuntime) {
         (2, &[transposed(0), plain(1)]),
     ];
     for (set, members) in sets {
-        assert_eq!(rt; has_set(&rt, &files, text, set, members), Some(true));
+        same(&rt, &has_set(&rt, &files, text, set, members), &Some(true));
     }
 }
 
@@ -190,7 +212,7 @@ const LINES: &[u8] =
 #[test]
 fn a_bundle_has_1_to_16_sets(rt: HostRuntime) {
     let files: [&[u8]; 1] = [&TILE_1];
-    assert_eq!(rt; sizes(&rt, &files, &LINES[..96]), Some((2, 1, 16)));
+    expect_sizes(&rt, &files, &LINES[..96], (2, 1, 16));
     let bad =
         b"set 0\nset 0\nset 0\nset\nset 0\nset 0\nset 0\nset 0\nset 0\nset 0\nset 0\nset 0\nset 0\nset 0\nset 0\nset 0\nset 0\n";
     let texts: [(&[u8], SetFault); 3] = [
@@ -200,7 +222,7 @@ fn a_bundle_has_1_to_16_sets(rt: HostRuntime) {
         (bad, SetFault::S1(3)),
     ];
     for (text, want) in texts {
-        assert_eq!(rt; fault(&rt, &files, text), Some(want));
+        expect_fault(&rt, &files, text, Some(want));
     }
 }
 
@@ -237,11 +259,7 @@ fn lines_of_another_form_are_refused(rt: HostRuntime) {
         (b"set 0\nset 0\n ", 2),
     ];
     for (text, line) in texts {
-        assert_eq!(rt;
-            fault(&rt, &files, text),
-            Some(SetFault::S1(line)),
-            "{text:?}"
-        );
+        expect_fault(&rt, &files, text, Some(SetFault::S1(line)));
     }
 }
 
@@ -254,11 +272,7 @@ fn a_text_that_is_cut_is_refused_at_its_last_line(rt: HostRuntime) {
             8 => None,
             _ => Some(SetFault::S1(1)),
         };
-        assert_eq!(rt;
-            fault(&rt, &[&TILES_12, &TILE_3], &text[..len]),
-            want,
-            "{len} bytes"
-        );
+        expect_fault(&rt, &[&TILES_12, &TILE_3], &text[..len], want);
     }
 }
 
@@ -276,7 +290,7 @@ fn missing_and_overlapping_tables_are_refused(rt: HostRuntime) {
         (&[&TILE_1], b"set 0 16 17 99\n", SetFault::S2(0)),
     ];
     for (files, text, want) in texts {
-        assert_eq!(rt; fault(&rt, files, text), Some(want), "{text:?}");
+        expect_fault(&rt, files, text, Some(want));
     }
 }
 
@@ -313,7 +327,7 @@ fn transposed_members_of_one_pattern_are_refused(rt: HostRuntime) {
         ),
     ];
     for (files, text, want) in faults {
-        assert_eq!(rt; fault(&rt, files, text), Some(want), "{text:?}");
+        expect_fault(&rt, files, text, Some(want));
     }
 }
 
@@ -325,14 +339,14 @@ const ALL_MEMBERS: &[u8] =
 fn a_line_names_each_table_twice_at_most(rt: HostRuntime) {
     let sixteen: [&[u8]; 16] = [&TILE_1; 16];
     let fifteen: [&[u8]; 15] = [&TILE_1; 15];
-    assert_eq!(rt; fault(&rt, &sixteen, ALL_MEMBERS), Some(SetFault::S6(0)));
-    assert_eq!(rt; fault(&rt, &fifteen, ALL_MEMBERS), Some(SetFault::S2(0)));
+    expect_fault(&rt, &sixteen, ALL_MEMBERS, Some(SetFault::S6(0)));
+    expect_fault(&rt, &fifteen, ALL_MEMBERS, Some(SetFault::S2(0)));
 }
 
 #[test]
 fn a_bundle_has_1_to_16_tables_of_one_side(rt: HostRuntime) {
     let seventeen: [&[u8]; 17] = [&TILE_1; 17];
-    assert_eq!(rt; fault(&rt, &seventeen, b"set 0\n"), Some(SetFault::S5));
+    expect_fault(&rt, &seventeen, b"set 0\n", Some(SetFault::S5));
     // Other sides come before lines of another form.
     let texts: [(&[&[u8]], &[u8], SetFault); 3] = [
         (&[], b"set 0\n", SetFault::S5),
@@ -344,11 +358,6 @@ fn a_bundle_has_1_to_16_tables_of_one_side(rt: HostRuntime) {
         ),
     ];
     for (files, text, want) in texts {
-        assert_eq!(rt;
-            fault(&rt, files, text),
-            Some(want),
-            "{} tables",
-            files.len()
-        );
+        expect_fault(&rt, files, text, Some(want));
     }
 }

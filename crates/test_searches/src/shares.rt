@@ -1,5 +1,6 @@
 //! Workers that share jobs.
 
+use crate::same::{same, same_for};
 use std::alloc::AllocError;
 use std::process::Abort;
 use std::test::Fail;
@@ -55,9 +56,14 @@ fn each_outcome_stands_in_the_place_of_its_job(rt: HostRuntime) -> Result<(), Fa
     for workers in [1, 2, 7, 64] {
         for count in [0, 1, 5, 1000] {
             let squares = shared(&rt, count, workers, &OpenGate)?;
-            assert_eq!(rt; squares.len(), count);
+            same(&rt, &squares.len(), &count);
             for (job, square) in squares.iter().enumerate() {
-                assert_eq!(rt; *square, job as u128 * job as u128, "{workers} workers");
+                same_for(
+                    &rt,
+                    square,
+                    &(job as u128 * job as u128),
+                    &("workers", workers),
+                );
             }
         }
     }
@@ -73,9 +79,9 @@ fn each_job_passes_the_gate_once(rt: HostRuntime) -> Result<(), Fail> {
         let mut jobs = log.notes(rt.alloc())?;
         jobs.sort()?;
         if outcomes.is_ok() {
-            assert_eq!(rt; log.count(), 100);
+            same(&rt, &log.count(), &100);
             for (job, number) in (0..100).zip(&jobs) {
-                assert_eq!(rt; *number, job);
+                same(&rt, number, &job);
             }
         }
     }

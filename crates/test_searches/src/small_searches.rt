@@ -1,6 +1,7 @@
 //! Searches of the boards of side 2, whose solutions are known.
 
 use crate::guided::reversals;
+use crate::same::{same, same_for};
 use crate::starts::start_of;
 use arrayvec::ArrayVec;
 use puz_board::{Board, replay};
@@ -84,10 +85,11 @@ pub(crate) fn searched<R: Threads + Wait + Sync + AllocGlobal + Abort>(
             Ok(answer) => answer,
             Err(_) => refute_by(&guide, &start, bound, budget, &workers).expect(rt, "memory"),
         };
-        assert_eq!(rt;
-            tell(rt, &board, answer),
-            alone,
-            "{numbers:?}, {count} workers"
+        same_for(
+            rt,
+            &tell(rt, &board, answer),
+            &alone,
+            &("workers", numbers, count),
         );
     }
     alone
@@ -128,10 +130,11 @@ pub(crate) fn deepened<R: Threads + Wait + Sync + AllocGlobal + Abort>(
             Ok(found) => found,
             Err(_) => shortest_by(&guide, &start, budget, &workers).expect(rt, "memory"),
         };
-        assert_eq!(rt;
-            reached(rt, &board, found),
-            alone,
-            "{numbers:?}, {count} workers"
+        same_for(
+            rt,
+            &reached(rt, &board, found),
+            &alone,
+            &("workers", numbers, count),
         );
     }
     alone
@@ -162,14 +165,16 @@ fn the_fewest_moves_are_found_and_no_fewer(rt: HostRuntime) {
                 Told::Refuted(_)
             )
         );
-        assert_eq!(rt;
-            searched(&rt, &bundle, numbers, fewest.saturating_add(1), 100),
-            Told::Solved(u16::from(fewest)),
-            "{numbers:?}"
+        same_for(
+            &rt,
+            &searched(&rt, &bundle, numbers, fewest.saturating_add(1), 100),
+            &Told::Solved(u16::from(fewest)),
+            &numbers,
         );
-        assert_eq!(rt;
-            deepened(&rt, &bundle, numbers, 100),
-            Far::Shortest(u16::from(fewest))
+        same(
+            &rt,
+            &deepened(&rt, &bundle, numbers, 100),
+            &Far::Shortest(u16::from(fewest)),
         );
     }
 }
@@ -180,11 +185,12 @@ fn half_of_the_boards_have_no_solution(rt: HostRuntime) {
     let bundle = bundle(&rt, &TILES_123);
     for numbers in &RING {
         let exchanged = with_two_exchanged(&rt, numbers);
-        assert_eq!(rt;
-            searched(&rt, &bundle, &exchanged, 255, 0),
-            Told::Refuted(0)
+        same(
+            &rt,
+            &searched(&rt, &bundle, &exchanged, 255, 0),
+            &Told::Refuted(0),
         );
-        assert_eq!(rt; deepened(&rt, &bundle, &exchanged, 0), Far::Beyond);
+        same(&rt, &deepened(&rt, &bundle, &exchanged, 0), &Far::Beyond);
     }
 }
 
@@ -193,7 +199,11 @@ fn a_board_with_no_solution_is_searched_up_to_the_last_threshold(rt: HostRuntime
     // Two ways lead round the ring, so each threshold of two more takes four boards more, and 127 of them some 32,000.
     let bundle = bundle(&rt, &TILE_1);
     let exchanged = with_two_exchanged(&rt, &RING[6]);
-    assert_eq!(rt; deepened(&rt, &bundle, &exchanged, 40_000), Far::Beyond);
+    same(
+        &rt,
+        &deepened(&rt, &bundle, &exchanged, 40_000),
+        &Far::Beyond,
+    );
     assert!(rt; matches!(deepened(&rt, &bundle, &exchanged, 10_000), Far::Spent(_)));
 }
 
@@ -205,12 +215,17 @@ fn a_budget_of_just_the_boards_is_enough(rt: HostRuntime) {
         panic!(rt; "refuted");
     };
     assert!(rt; boards > 0);
-    assert_eq!(rt;
-        searched(&rt, &bundle, &RING[6], 6, boards),
-        Told::Refuted(boards)
+    same(
+        &rt,
+        &searched(&rt, &bundle, &RING[6], 6, boards),
+        &Told::Refuted(boards),
     );
     for budget in 0..boards {
-        assert_eq!(rt; searched(&rt, &bundle, &RING[6], 6, budget), Told::Spent);
+        same(
+            &rt,
+            &searched(&rt, &bundle, &RING[6], 6, budget),
+            &Told::Spent,
+        );
     }
 }
 
@@ -225,9 +240,10 @@ fn one_budget_is_for_all_thresholds(rt: HostRuntime) -> Result<(), Fail> {
         };
         if boards > 0 {
             let short = before.saturating_add(boards).saturating_sub(1);
-            assert_eq!(rt;
-                deepened(&rt, &bundle, &RING[6], short),
-                Far::Spent(bound.saturating_sub(1))
+            same(
+                &rt,
+                &deepened(&rt, &bundle, &RING[6], short),
+                &Far::Spent(bound.saturating_sub(1)),
             );
             bounds.try_push(bound).ok().expect(&rt, "room");
         }

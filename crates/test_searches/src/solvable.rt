@@ -1,8 +1,9 @@
 //! Boards that no search can solve end at once by K2, and no others do.
 
 use crate::boards::BOARDS_OF_SIDE_2;
-use crate::bundles::bundle;
+use crate::bundles::over_one;
 use crate::finding::{PLENTY, board_of, built, found};
+use crate::same::{same, same_for};
 use puz_board::{Board, MOVES};
 use puz_make::{MakeFault, solve};
 use set_sum::Bundle;
@@ -52,15 +53,15 @@ fn boards_of_side_2_are_searched_where_a_plain_search_reaches_them(
             }
         }
     }
-    assert_eq!(rt; reached.len(), 12);
-    let one = bundle(&rt, &[&TILE_1], b"set 0\n");
+    same(&rt, &reached.len(), &12);
+    let one = over_one(&rt, &TILE_1);
     for numbers in &BOARDS_OF_SIDE_2 {
         if reached.contains(&board_of(&rt, numbers)) {
             let found = found(&rt, &one, numbers, PLENTY);
             assert!(rt; found.is_ok(), "{numbers:?}");
         } else {
             let fault = found(&rt, &one, numbers, 0).err();
-            assert_eq!(rt; fault, Some(MakeFault::K2), "{numbers:?}");
+            same_for(&rt, &fault, &Some(MakeFault::K2), &numbers);
         }
     }
     Ok(())
@@ -112,7 +113,7 @@ fn check_walks<R: Threads + Wait + AllocGlobal + Abort>(
         let tile = 1 + (random.next() % (goal.len().max(3) - 2) % 23) as u8;
         let exchanged = with_two_tiles_exchanged(rt.alloc(), &board, tile)?;
         let fault = found(rt, bundle, &exchanged, 1).err();
-        assert_eq!(rt; fault, Some(MakeFault::K2), "{board:?} {tile}");
+        same_for(rt, &fault, &Some(MakeFault::K2), &(board, tile));
     }
     Ok(())
 }
@@ -122,8 +123,8 @@ fn boards_of_sides_3_to_5_are_searched_where_walks_lead_to_them(
     rt: HostRuntime,
 ) -> Result<(), Fail> {
     for (n, walks) in [(3, 334), (4, 333), (5, 333)] {
-        let table = built(&rt, n, 2).expect(&rt, "a table");
-        let one = bundle(&rt, &[&table], b"set 0\n");
+        let table = built(&rt, n, 2);
+        let one = over_one(&rt, &table);
         let goal = (0..n * n).collect::<Vec<u8>>(rt.alloc())?;
         check_walks(&rt, &one, &goal, walks)?;
     }

@@ -6,6 +6,7 @@ ghost use Rattle.puz_walk.specs.Starts.{IsStart};
 use crate::boards::{BOARDS_OF_SIDE_2, BOARDS_OF_SIDE_3};
 use crate::bundles::{bundle, folded_bundle};
 use crate::finding::{board_of, halves_of_side_3};
+use crate::same::{same, same_for};
 use puz_board::Board;
 use puz_walk::Start;
 use set_sum::Bundle;
@@ -44,12 +45,12 @@ fn has_sums<R: Abort>(rt: &R, bundle: &Bundle<'_>, numbers: &[u8]) -> bool {
             (Count::Never, _) => is_never = true,
             (Count::Finite(sum), Some(sums)) => {
                 let kept = sums.get(usize::from(set)).copied();
-                assert_eq!(rt; kept.map(u16::from), Some(sum), "{numbers:?}");
+                same_for(rt, &kept.map(u16::from), &Some(sum), &numbers);
             }
             (Count::Finite(_), None) => {}
         }
     }
-    assert_eq!(rt; start.sums.is_none(), is_never, "{numbers:?}");
+    same_for(rt, &start.sums.is_none(), &is_never, &numbers);
     !is_never
 }
 
@@ -68,11 +69,11 @@ fn with_sums<R: Abort>(rt: &R, bundle: &Bundle<'_>) -> usize {
 fn a_start_has_no_sums_exactly_where_a_set_says_never(rt: HostRuntime) -> Result<(), Fail> {
     // Half of the boards have no solution, which tables of more than one tile tell.
     let few = bundle(&rt, &[&TILE_1, &TILE_3], b"set 0 1\nset 0 0t\nset 1t\n");
-    assert_eq!(rt; with_sums(&rt, &few), 24);
+    same(&rt, &with_sums(&rt, &few), &24);
     let all = bundle(&rt, &[&TILE_1, &TILES_123], b"set 0\nset 0t\nset 1t\n");
-    assert_eq!(rt; with_sums(&rt, &all), 12);
+    same(&rt, &with_sums(&rt, &all), &12);
     let folds = folded_bundle(&rt, &[&TILE_3, &TILES_123], b"set 0\nset 1\n");
-    assert_eq!(rt; with_sums(&rt, &folds), 12);
+    same(&rt, &with_sums(&rt, &folds), &12);
     let (low, high) = halves_of_side_3(rt.alloc())?;
     let halves = bundle(&rt, &[&low, &high], b"set 0 1\nset 0t 1t\n");
     for numbers in &BOARDS_OF_SIDE_3 {

@@ -3,6 +3,7 @@
 use crate::boards::{BOARDS_OF_SIDE_2, BOARDS_OF_SIDE_3, BOARDS_OF_SIDE_4, BOARDS_OF_SIDE_5};
 use crate::bundles::bundle;
 use crate::finding::{board_of, built};
+use crate::same::same_for;
 use set_sum::Bundle;
 use std::process::Abort;
 use std::sync::Wait;
@@ -13,7 +14,7 @@ use std::thread::Threads;
 fn expect_one_sum(rt: &impl Abort, bundle: &Bundle<'_>, numbers: &[u8]) {
     let board = board_of(rt, numbers);
     assert!(rt; bundle.sets() == 2 && board.side() == bundle.side());
-    assert_eq!(rt; bundle.sum(0, &board), bundle.sum(1, &board), "{numbers:?}");
+    same_for(rt, &bundle.sum(0, &board), &bundle.sum(1, &board), &numbers);
 }
 
 /// Asserts that the transposed member of the table of a mask says the same of these boards as the table of the transposed
@@ -24,8 +25,8 @@ fn expect_alike<const N: usize, R: Threads + Wait + Sync + AllocGlobal + Abort>(
     masks: (u32, u32),
     boards: &[[u8; N]],
 ) {
-    let table = built(rt, n, masks.0).expect(rt, "a table");
-    let transposed = built(rt, n, masks.1).expect(rt, "a table");
+    let table = built(rt, n, masks.0);
+    let transposed = built(rt, n, masks.1);
     let bundle = bundle(rt, &[&table, &transposed], b"set 0t\nset 1\n");
     for numbers in boards {
         expect_one_sum(rt, &bundle, numbers);

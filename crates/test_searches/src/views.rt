@@ -1,5 +1,6 @@
 //! Worked log files, changed and cut ones, and one of many lemmas.
 
+use crate::same::{same, same_for};
 use log_file::{FormFault, LogView, ViewFault};
 use puz_board::Board;
 use std::alloc::{AllocError, Global};
@@ -30,15 +31,19 @@ fn lemmas_are_read_in_their_order(rt: HostRuntime) {
     let log = LogView::read(rt.alloc(), &CITATION)
         .ok()
         .expect(&rt, "a log");
-    assert_eq!(rt; (log.version(), log.side().get(), log.len()), (1, 2, 2));
+    same(
+        &rt,
+        &(log.version(), log.side().get(), log.len()),
+        &(1, 2, 2),
+    );
     let lemmas: [([u8; 4], u8, &[u8]); 2] = [
         ([3, 0, 1, 2], 5, b"\0\x01\0\0\0\x01"),
         ([3, 2, 1, 0], 6, b"\0\x20\0\0\0\0\0\0\0\0\x01"),
     ];
     for (i, (cells, bound, tree)) in (0..log.len()).zip(lemmas) {
         assert!(rt; i < log.len());
-        assert_eq!(rt; Some(log.board(i)), Board::from_cells(&cells));
-        assert_eq!(rt; (log.bound(i), log.tree(i)), (bound, tree));
+        same(&rt, &Some(log.board(i)), &Board::from_cells(&cells));
+        same(&rt, &(log.bound(i), log.tree(i)), &(bound, tree));
     }
 }
 
@@ -57,7 +62,12 @@ fn headers_are_refused(rt: HostRuntime) {
     ];
     for (place, byte) in changes {
         let file = with_byte(&LEAF, place, byte);
-        assert_eq!(rt; refused(alloc, &file), Some(FormFault::L1), "byte {place}");
+        same_for(
+            &rt,
+            &refused(alloc, &file),
+            &Some(FormFault::L1),
+            &("byte", place),
+        );
     }
 }
 
@@ -67,7 +77,7 @@ fn a_header_says_at_most_1_048_576_lemmas(rt: HostRuntime) {
     for (count, want) in counts {
         let mut file = LEAF;
         file[6..10].copy_from_slice(&count.to_be_bytes());
-        assert_eq!(rt; refused(rt.alloc(), &file), Some(want));
+        same(&rt, &refused(rt.alloc(), &file), &Some(want));
     }
 }
 
@@ -80,7 +90,12 @@ fn lemmas_that_are_cut_short_are_refused(rt: HostRuntime) {
             10..25 => FormFault::L2(0),
             _ => FormFault::L2(1),
         };
-        assert_eq!(rt; refused(alloc, &CITATION[..len]), Some(want), "{len} bytes");
+        same_for(
+            &rt,
+            &refused(alloc, &CITATION[..len]),
+            &Some(want),
+            &("bytes", len),
+        );
     }
 }
 
@@ -98,7 +113,7 @@ fn lengths_that_are_not_met_are_refused(rt: HostRuntime) {
         (&with_byte(&CITATION, 33, 0x0A), FormFault::L2(2)),
     ];
     for (file, want) in files {
-        assert_eq!(rt; refused(rt.alloc(), file), Some(want), "{file:?}");
+        same_for(&rt, &refused(rt.alloc(), file), &Some(want), &file);
     }
 }
 
@@ -114,7 +129,7 @@ fn boards_are_refused_behind_all_lengths(rt: HostRuntime) {
         (&with_byte(&LEAF, 5, 3), FormFault::L2(0)),
     ];
     for (file, want) in files {
-        assert_eq!(rt; refused(rt.alloc(), file), Some(want), "{file:?}");
+        same_for(&rt, &refused(rt.alloc(), file), &Some(want), &file);
     }
 }
 
@@ -127,6 +142,6 @@ fn many_lemmas_are_read(rt: HostRuntime) -> Result<(), Fail> {
         .expect(&rt, "a log");
     assert_eq!(rt; log.len(), 70_000);
     assert!(rt; log.board(69_999).is_goal());
-    assert_eq!(rt; log.tree(69_999), b"\x01".as_slice());
+    same(&rt, &log.tree(69_999), &b"\x01".as_slice());
     Ok(())
 }

@@ -1,6 +1,7 @@
 //! What a gate is told of searches.
 
 use crate::guided::reversals;
+use crate::same::same;
 use crate::small_searches::bundle;
 use crate::starts::start_of;
 use move_strings::Automaton;
@@ -59,13 +60,13 @@ fn watch<R: Threads + Sync + AllocGlobal + Abort>(
     let Ok(SearchAnswer::Refuted(boards)) = refute_by(&guide, &start, 6, 100, &workers) else {
         panic!(rt; "refuted");
     };
-    assert_eq!(rt; counts.searches.load(Ordering::SeqCst), 1);
-    assert_eq!(rt; counts.boards.load(Ordering::SeqCst), boards);
+    same(rt, &counts.searches.load(Ordering::SeqCst), &1);
+    same(rt, &counts.boards.load(Ordering::SeqCst), &boards);
     let Ok(Deepened::Shortest(_)) = shortest_by(&guide, &start, 100, &workers) else {
         panic!(rt; "a solution");
     };
     // Thresholds 1, 3, 5 and 7.
-    assert_eq!(rt; counts.searches.load(Ordering::SeqCst), 5);
+    same(rt, &counts.searches.load(Ordering::SeqCst), &5);
 }
 
 #[test]

@@ -1,7 +1,8 @@
 //! What a gate is told while tables are built and solutions are searched for.
 
-use crate::bundles::bundle;
-use crate::finding::{PLENTY, board_of};
+use crate::bundles::over_one;
+use crate::finding::{PLENTY, board_of, searched_table};
+use crate::same::{same, same_for};
 use pat_place::Pattern;
 use puz_board::Side;
 use puz_make::{Found, MakeFault, draft, solve_watched};
@@ -10,7 +11,6 @@ use std::process::Abort;
 use std::sync::atomic::{AtomicU64, Ordering};
 use std::test::Fail;
 use std::thread::Threads;
-use test_samples::LeastCosts;
 use test_samples::files::{TILE_1, TILES_12, TILES_123};
 use work_run::Gate;
 
@@ -100,22 +100,25 @@ fn told_of_table<R: Threads + Sync + AllocGlobal + Abort>(
         made.is_ok_and(|made| made.file.len() as u64 == entries.saturating_add(20)),
         "{mask}"
     );
-    assert_eq!(rt;
-        (of(&gate.layers), of(&gate.moves)),
-        (deepest, deepest),
-        "{mask}"
+    same_for(
+        rt,
+        &(of(&gate.layers), of(&gate.moves)),
+        &(deepest, deepest),
+        &mask,
     );
-    assert_eq!(rt;
-        (of(&gate.counts), of(&gate.all_counts)),
-        (counts, all),
-        "{mask}"
+    same_for(
+        rt,
+        &(of(&gate.counts), of(&gate.all_counts)),
+        &(counts, all),
+        &mask,
     );
-    assert_eq!(rt;
-        (of(&gate.entries), of(&gate.all_entries)),
-        (entries, entries),
-        "{mask}"
+    same_for(
+        rt,
+        &(of(&gate.entries), of(&gate.all_entries)),
+        &(entries, entries),
+        &mask,
     );
-    assert_eq!(rt; (of(&gate.passed), of(&gate.calls)), (0, 0), "{mask}");
+    same_for(rt, &(of(&gate.passed), of(&gate.calls)), &(0, 0), &mask);
 }
 
 // A table has as many counts as entries that aren't 254, and finds those that aren't 255.
@@ -142,32 +145,36 @@ fn found_by<R: Abort + AllocGlobal>(
 
 #[test]
 fn a_gate_is_told_of_each_threshold_and_of_all_boards(rt: HostRuntime) {
-    let one = bundle(&rt, &[&TILE_1], b"set 0\n");
-    let two = bundle(&rt, &[&TILES_12], b"set 0\n");
-    let all = bundle(&rt, &[&TILES_123], b"set 0\n");
+    let one = over_one(&rt, &TILE_1);
+    let two = over_one(&rt, &TILES_12);
+    let all = over_one(&rt, &TILES_123);
     // As many boards as other tests say that a search expands.
     for (bundle, bounds, boards) in [(&one, 357, 16), (&two, 57, 9), (&all, 7, 6)] {
         let gate = Told::new();
         assert!(rt; found_by(&rt, bundle, &[3, 2, 1, 0], PLENTY, &gate).is_ok());
-        assert_eq!(rt; (of(&gate.bounds), of(&gate.boards)), (bounds, boards));
+        same(
+            &rt,
+            &(of(&gate.bounds), of(&gate.boards)),
+            &(bounds, boards),
+        );
         for budget in 0..boards {
             let gate = Told::new();
             let found = found_by(&rt, bundle, &[3, 2, 1, 0], budget, &gate);
-            assert_eq!(rt; found.err(), Some(MakeFault::K1));
-            assert_eq!(rt; of(&gate.boards), budget);
+            same(&rt, &found.err(), &Some(MakeFault::K1));
+            same(&rt, &of(&gate.boards), &budget);
         }
-        assert_eq!(rt; of(&gate.passed), 0);
+        same(&rt, &of(&gate.passed), &0);
     }
 }
 
 #[test]
 fn a_gate_is_told_now_and_then_of_a_long_search(rt: HostRuntime) -> Result<(), Fail> {
-    let table = LeastCosts::new(rt.alloc(), &[4])?.table(rt.alloc())?;
-    let bundle = bundle(&rt, &[&table], b"set 0\n");
+    let table = searched_table(rt.alloc(), &[4])?;
+    let bundle = over_one(&rt, &table);
     let gate = Told::new();
     let found = found_by(&rt, &bundle, &[8, 7, 6, 0, 4, 1, 2, 5, 3], 50_000, &gate);
-    assert_eq!(rt; found.err(), Some(MakeFault::K1));
-    assert_eq!(rt; of(&gate.boards), 50_000);
+    same(&rt, &found.err(), &Some(MakeFault::K1));
+    same(&rt, &of(&gate.boards), &50_000);
     assert!(rt; of(&gate.calls) >= 4);
     Ok(())
 }

@@ -8,6 +8,7 @@ use crate::boards::BOARDS_OF_SIDE_3;
 use crate::bundles::bundle;
 use crate::finding::{board_of, halves_of_side_3};
 use crate::guided::reversals;
+use crate::same::same;
 use crate::small_searches::Told;
 use crate::starts::start_of;
 use crate::worded::{PLENTY, told, told_by, words_of};
@@ -82,11 +83,11 @@ fn search_kept<R: Threads + Wait + Sync + AllocGlobal + Abort>(
     let words = WordBundle::of(&kept.outline, &kept.words).expect(rt, "words of each table");
     let automaton = reversals(rt, kept.outline.side());
     let guide = Guide::over_words(&words, &automaton);
-    assert_eq!(rt; kept.wanted.len(), kept.starts.len());
+    same(rt, &kept.wanted.len(), &kept.starts.len());
     let mut refuted: usize = 0;
     for (start, wanted) in kept.starts.iter().zip(&kept.wanted) {
-        assert_eq!(rt; told(rt, &guide, start, BOUND, PLENTY), *wanted);
-        assert_eq!(rt; told_by(rt, &guide, start, BOUND, 7)?, *wanted);
+        same(rt, &told(rt, &guide, start, BOUND, PLENTY), wanted);
+        same(rt, &told_by(rt, &guide, start, BOUND, 7)?, wanted);
         if matches!(wanted, Told::Refuted(_)) {
             refuted = refuted.saturating_add(1);
         }

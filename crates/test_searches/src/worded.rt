@@ -4,8 +4,9 @@ ghost use Rattle.std.specs.Prelude.{◌≡◌};
 ghost use Rattle.puz_walk.specs.Starts.{IsStart};
 
 use crate::bundles::bundle;
-use crate::finding::built;
+use crate::finding::{built, searched_table};
 use crate::guided::{of_strings, reversals, scrambled};
+use crate::same::{same, same_for};
 use crate::small_searches::{Told, tell, with_two_exchanged};
 use crate::starts::start_of;
 use edge_words::Words;
@@ -19,7 +20,6 @@ use std::process::Abort;
 use std::sync::Wait;
 use std::test::Fail;
 use std::thread::Threads;
-use test_samples::LeastCosts;
 use test_samples::boards::RING;
 use test_samples::files::{TILE_1, TILE_3, TILES_123};
 use work_run::{OpenGate, Workers};
@@ -92,21 +92,22 @@ fn compare<R: Threads + Wait + Sync + AllocGlobal + Abort>(
     requires words { IsStart words.now.bundle start.now }
 {
     let wanted = told(rt, sums, start, bound, PLENTY);
-    assert_eq!(rt; told(rt, words, start, bound, PLENTY), wanted);
+    same(rt, &told(rt, words, start, bound, PLENTY), &wanted);
     for count in [1, 2, 7] {
-        assert_eq!(rt;
-            told_by(rt, words, start, bound, count)?,
-            wanted,
-            "{count} workers"
+        same_for(
+            rt,
+            &told_by(rt, words, start, bound, count)?,
+            &wanted,
+            &("workers", count),
         );
     }
     let Told::Refuted(boards) = wanted else {
         return Ok(0);
     };
-    assert_eq!(rt; told(rt, words, start, bound, boards), wanted);
+    same(rt, &told(rt, words, start, bound, boards), &wanted);
     if boards > 0 {
         let short = boards.saturating_sub(1);
-        assert_eq!(rt; told(rt, words, start, bound, short), Told::Spent);
+        same(rt, &told(rt, words, start, bound, short), &Told::Spent);
     }
     Ok(boards)
 }
@@ -188,8 +189,8 @@ fn all_boards_of_side_2_are_searched_alike(rt: HostRuntime) -> Result<(), Fail> 
 
 #[test]
 fn boards_of_side_3_are_searched_alike(rt: HostRuntime) -> Result<(), Fail> {
-    let low = LeastCosts::new(rt.alloc(), &[1, 2, 3, 4])?.table(rt.alloc())?;
-    let high = LeastCosts::new(rt.alloc(), &[5, 6, 7, 8])?.table(rt.alloc())?;
+    let low = searched_table(rt.alloc(), &[1, 2, 3, 4])?;
+    let high = searched_table(rt.alloc(), &[5, 6, 7, 8])?;
     let mut board = Board::from_cells(&[0, 1, 2, 3, 4, 5, 6, 7, 8]).expect(&rt, "a board");
     let mut boards = Vec::new(rt.alloc());
     let mut state: u32 = 7;
@@ -207,7 +208,7 @@ fn boards_of_side_3_are_searched_alike(rt: HostRuntime) -> Result<(), Fail> {
 
 /// The table of a mask of tiles of side 4.
 fn table_of<R: Threads + Sync + AllocGlobal + Abort>(rt: &R, mask: u32) -> Vec<u8> {
-    built(rt, 4, mask).expect(rt, "a table")
+    built(rt, 4, mask)
 }
 
 #[test]
@@ -226,7 +227,7 @@ fn boards_of_side_4_are_searched_alike(rt: HostRuntime) -> Result<(), Fail> {
             &[board],
             &[bound],
         )?;
-        assert_eq!(rt; short, boards);
+        same(&rt, &short, &boards);
         assert!(rt; long > 0 && long < short, "{long}");
     }
     Ok(())
@@ -243,10 +244,10 @@ fn refutes_all<R: Threads + Wait + Sync + AllocGlobal + Abort>(
     assert!(rt; start.sums.is_none());
     let whole = BoundPart::new(0, 1).expect(rt, "a part");
     for bound in 0..=u8::MAX {
-        assert_eq!(rt; told(rt, guide, start, bound, 0), Told::Refuted(0));
-        assert_eq!(rt; told_by(rt, guide, start, bound, 2)?, Told::Refuted(0));
+        same(rt, &told(rt, guide, start, bound, 0), &Told::Refuted(0));
+        same(rt, &told_by(rt, guide, start, bound, 2)?, &Told::Refuted(0));
         let part = refute_part(guide, start, &PartBound::new(bound, whole), 0);
-        assert_eq!(rt; tell(rt, &start.board, part), Told::Refuted(0));
+        same(rt, &tell(rt, &start.board, part), &Told::Refuted(0));
     }
     assert!(rt; matches!(shortest(guide, start, 0), Deepened::Beyond));
     Ok(())

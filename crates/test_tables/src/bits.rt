@@ -1,6 +1,7 @@
 //! Bits beside known counts, and beside those that a breadth-first search of all boards of side 3 found.
 
 use crate::making::{bit, words_of};
+use crate::same::{same, same_for};
 use edge_words::Words;
 use puz_board::{MOVES, Move};
 use std::process::Abort;
@@ -106,12 +107,10 @@ fn expect_bits<R: Abort>(
             next[blank.min(8)] = tile;
             next[to.min(8)] = 0;
             let (before, after) = (costs.of(numbers), costs.of(&next));
-            assert_eq!(rt; before.abs_diff(after), 1);
-            assert_eq!(rt;
-                bit(words, index, u8::try_from(place).unwrap_or(OTHER), *mv),
-                Some(before < after),
-                "{numbers:?} {mv:?}"
-            );
+            same(rt, &before.abs_diff(after), &1);
+            let place = u8::try_from(place).unwrap_or(OTHER);
+            let rises = bit(words, index, place, *mv);
+            same_for(rt, &rises, &Some(before < after), &(numbers, mv));
         }
     }
 }
@@ -135,17 +134,24 @@ fn expect_words<R: Threads + Wait + Sync + AllocGlobal + Abort>(
     Ok(())
 }
 
+/// Asserts the bits of the words that so many workers make of a table of one tile.
+fn expect_known<R: Threads + Wait + Sync + AllocGlobal + Abort>(
+    rt: &R,
+    file: &[u8],
+    workers: u8,
+    bits: &[(u32, Move, bool)],
+) {
+    let words = words_of(rt, file, workers).expect(rt, "words");
+    for (cell, mv, rises) in bits {
+        same_for(rt, &bit(&words, *cell, 0, *mv), &Some(*rises), &(cell, mv));
+    }
+}
+
 #[test]
 fn the_bits_of_one_tile_of_side_2_are_known(rt: HostRuntime) {
     for workers in [1, 2, 7] {
-        let first = words_of(&rt, &TILE_1, workers).expect(&rt, "words");
-        for (cell, mv, rises) in &BITS_OF_TILE_1 {
-            assert_eq!(rt; bit(&first, *cell, 0, *mv), Some(*rises), "{cell} {mv:?}");
-        }
-        let third = words_of(&rt, &TILE_3, workers).expect(&rt, "words");
-        for (cell, mv, rises) in &BITS_OF_TILE_3 {
-            assert_eq!(rt; bit(&third, *cell, 0, *mv), Some(*rises), "{cell} {mv:?}");
-        }
+        expect_known(&rt, &TILE_1, workers, &BITS_OF_TILE_1);
+        expect_known(&rt, &TILE_3, workers, &BITS_OF_TILE_3);
     }
 }
 

@@ -2,13 +2,17 @@
 
 ghost use Rattle.work_run.specs.Workers.{AreWorkers};
 
+use crate::same::{same, same_for};
+use std::alloc::{AllocError, Global};
 use std::process::Abort;
 use std::sync::Wait;
 use std::test::Fail;
 use std::thread::Threads;
-use tab_check::{Census, TableFault, TableRefusal, block_count, check_block, check_table};
+use tab_check::{
+    Census, CheckedTable, TableFault, TableRefusal, block_count, check_block, check_table,
+};
 use tab_file::{HeadFault, view};
-use test_samples::Log;
+use test_samples::{LeastCosts, Log};
 use work_run::{Gate, OpenGate};
 
 /// The census of a table file, or its fault, by so many workers.
@@ -24,6 +28,39 @@ pub(crate) fn census_by<R: Threads + Wait + AllocGlobal, G: Gate + Sync>(
         Ok(table) => Ok(table.census()),
         Err(fault) => Err(fault),
     }
+}
+
+/// The table of an exact file.
+pub(crate) fn exact<'a, R: Threads + Wait + AllocGlobal + Abort>(
+    rt: &R,
+    file: &'a [u8],
+) -> CheckedTable<'a> {
+    check_table(rt, rt.alloc(), file, 1, &OpenGate)
+        .ok()
+        .expect(rt, "an exact table")
+}
+
+/// Checks what the check of a table file answers.
+pub(crate) fn expect_census<R: Threads + Wait + AllocGlobal + Abort>(
+    rt: &R,
+    file: &[u8],
+    wanted: Result<Census, TableFault>,
+) {
+    same_for(rt, &census(rt, file), &wanted, &file.len());
+}
+
+/// Checks that this entry of a table file is the least bad one.
+pub(crate) fn expect_bad<R: Threads + Wait + AllocGlobal + Abort>(
+    rt: &R,
+    file: &[u8],
+    number: u64,
+) {
+    expect_census(rt, file, Err(bad_entry(number)));
+}
+
+/// The table of some tiles of side 3, as a plain search makes it.
+pub(crate) fn searched_table(alloc: Global, tiles: &[u8]) -> Result<Vec<u8>, AllocError> {
+    LeastCosts::new(alloc, tiles)?.table(alloc)
 }
 
 /// The least bad entry of a table file, by columns, one block after the other.
@@ -44,15 +81,16 @@ pub(crate) fn census<R: Threads + Wait + AllocGlobal + Abort>(
 ) -> Result<Census, TableFault> {
     let alone = census_by(rt, file, 1, &OpenGate);
     for workers in [2, 7, 64] {
-        assert_eq!(rt;
-            census_by(rt, file, workers, &OpenGate),
-            alone,
-            "{workers} workers"
+        same_for(
+            rt,
+            &census_by(rt, file, workers, &OpenGate),
+            &alone,
+            &("workers", workers),
         );
     }
     let bad = bad_by_columns(file).map(bad_entry);
     match alone {
-        Err(TableFault::Refused(TableRefusal::T7(_))) => assert_eq!(rt; alone.err(), bad),
+        Err(TableFault::Refused(TableRefusal::T7(_))) => same(rt, &alone.err(), &bad),
         _ => assert!(rt; bad.is_none()),
     }
     alone
@@ -65,8 +103,8 @@ pub(crate) fn expect_first_block_alone<R: Threads + Wait + AllocGlobal + Abort>(
 ) -> Result<(), Fail> {
     let log = Log::new(rt.alloc(), 2)?;
     let answer = census_by(rt, file, 1, &log);
-    assert_eq!(rt; answer, Err(bad_entry(0)));
-    assert_eq!(rt; log.notes(rt.alloc())?.as_slice(), [0].as_slice());
+    same(rt, &answer, &Err(bad_entry(0)));
+    same(rt, &log.notes(rt.alloc())?.as_slice(), &[0].as_slice());
     Ok(())
 }
 

@@ -1,5 +1,6 @@
 //! Known files byte by byte, changed and cut ones, and headers written by hand from the form.
 
+use crate::same::{same, same_for};
 use pat_place::Pattern;
 use puz_board::Side;
 use std::process::Abort;
@@ -15,7 +16,8 @@ fn pattern_with(rt: &impl Abort, n: u8, mask: u32) -> Pattern {
     Pattern::of_mask(side, mask).expect(rt, "a pattern")
 }
 
-fn viewed<'a>(rt: &impl Abort, file: &'a [u8]) -> TableView<'a> {
+/// The view of a table file.
+pub(crate) fn viewed<'a>(rt: &impl Abort, file: &'a [u8]) -> TableView<'a> {
     view(file).ok().expect(rt, "a table file")
 }
 
@@ -36,7 +38,7 @@ fn entry(rt: &impl Abort, file: &[u8], rank: u64, slot: u8) -> u8 {
 
 fn check_header(rt: &impl Abort, n: u8, mask: u32, want: &[u8]) {
     let header = header_of(&pattern_with(rt, n, mask));
-    assert_eq!(rt; header.as_slice(), want, "side {n}, mask {mask}");
+    same_for(rt, &header.as_slice(), &want, &("side, mask", n, mask));
 }
 
 #[test]
@@ -50,7 +52,7 @@ fn table_files_are_viewed(rt: HostRuntime) {
     ];
     for (file, n, mask) in files {
         let (header, entries) = file.split_at(file.len().min(20));
-        assert_eq!(rt; parts(&rt, file), (n, mask, entries));
+        same(&rt, &parts(&rt, file), &(n, mask, entries));
         check_header(&rt, n, mask, header);
     }
 }
@@ -69,7 +71,12 @@ fn entries_stand_rank_by_rank_and_slot_by_slot(rt: HostRuntime) {
         (&TILE_24, 24, 1, 0xFE),
     ];
     for (file, rank, slot, want) in entries {
-        assert_eq!(rt; entry(&rt, file, rank, slot), want, "at {rank}, {slot}");
+        same_for(
+            &rt,
+            &entry(&rt, file, rank, slot),
+            &want,
+            &("at", rank, slot),
+        );
     }
 }
 
@@ -81,9 +88,14 @@ const NUMBERED: &[u8] = b"PDBT\x01\x04\x01\0\0\0\x80\0\0\0\0\0\0\0\0\x20\
 #[test]
 fn a_table_of_side_four_is_viewed(rt: HostRuntime) {
     let (n, mask, entries) = parts(&rt, NUMBERED);
-    assert_eq!(rt; (n, mask, entries.len()), (4, 1 << 15, 32));
+    same(&rt, &(n, mask, entries.len()), &(4, 1 << 15, 32));
     for (rank, slot, want) in [(0, 1, 1), (7, 1, 15), (15, 0, 30)] {
-        assert_eq!(rt; entry(&rt, NUMBERED, rank, slot), want, "at {rank}, {slot}");
+        same_for(
+            &rt,
+            &entry(&rt, NUMBERED, rank, slot),
+            &want,
+            &("at", rank, slot),
+        );
     }
 }
 
@@ -103,7 +115,12 @@ fn head_faults_come_in_their_order(rt: HostRuntime) {
     for (place, byte, want) in changes {
         let file = with_byte(&TILES_123, place, byte);
         for (len, want) in [(44, want), (30, want), (19, HeadFault::T1)] {
-            assert_eq!(rt; fault(&file[..len]), Some(want), "byte {place} of {len}");
+            same_for(
+                &rt,
+                &fault(&file[..len]),
+                &Some(want),
+                &("byte of", place, len),
+            );
         }
     }
 }
@@ -122,7 +139,7 @@ fn a_header_with_one_bit_turned_is_refused(rt: HostRuntime) {
                 _ => HeadFault::T5,
             };
             let file = with_byte(&TILES_12, place, byte);
-            assert_eq!(rt; fault(&file), Some(want), "byte {byte} at {place}");
+            same_for(&rt, &fault(&file), &Some(want), &("byte at", byte, place));
         }
     }
 }
@@ -136,11 +153,11 @@ fn a_file_of_another_length_is_refused(rt: HostRuntime) {
             } else {
                 HeadFault::T6
             };
-            assert_eq!(rt; fault(&file[..len]), Some(want), "{len} bytes");
+            same_for(&rt, &fault(&file[..len]), &Some(want), &("bytes", len));
         }
-        assert_eq!(rt; fault(&with_one_more(file)), Some(HeadFault::T6));
+        same(&rt, &fault(&with_one_more(file)), &Some(HeadFault::T6));
     }
-    assert_eq!(rt; fault(b"abc"), Some(HeadFault::T1));
+    same(&rt, &fault(b"abc"), &Some(HeadFault::T1));
 }
 
 #[test]
@@ -173,6 +190,6 @@ fn a_header_with_entries_behind_it_is_a_table_file(rt: HostRuntime) {
     let mut file = [0xFE; 2036];
     file[..20].copy_from_slice(&header_of(&pattern_with(&rt, 3, 14)));
     let (n, mask, entries) = parts(&rt, &file);
-    assert_eq!(rt; (n, mask, entries.len()), (3, 14, 2016));
-    assert_eq!(rt; entry(&rt, &file, 503, 3), 0xFE);
+    same(&rt, &(n, mask, entries.len()), &(3, 14, 2016));
+    same(&rt, &entry(&rt, &file, 503, 3), &0xFE);
 }

@@ -1,5 +1,7 @@
 //! Folded tables: worked ones, those of side 3 beside the search of `test_samples`, and single tiles of sides 4 and 5.
 
+use crate::censuses::exact;
+use crate::same::{same, same_for};
 use pat_place::Pattern;
 use puz_board::{Board, Side};
 use std::alloc::{AllocError, Global};
@@ -18,10 +20,7 @@ fn folded<R: Threads + Wait + AllocGlobal + Abort>(
     rt: &R,
     file: &[u8],
 ) -> Result<FoldedTable, AllocError> {
-    let table = check_table(rt, rt.alloc(), file, 1, &OpenGate)
-        .ok()
-        .expect(rt, "an exact table");
-    fold(rt.alloc(), &table)
+    fold(rt.alloc(), &exact(rt, file))
 }
 
 /// What a folded table tells of the board with these numbers in its cells.
@@ -32,6 +31,19 @@ fn told(folded: &FoldedTable, numbers: &[u8]) -> Option<Count> {
     } else {
         None
     }
+}
+
+/// Checks the mask and the entries of the folded table of a file.
+fn expect_fold<R: Threads + Wait + AllocGlobal + Abort>(
+    rt: &R,
+    file: &[u8],
+    mask: u32,
+    entries: &[u8],
+) -> Result<(), AllocError> {
+    let table = folded(rt, file)?;
+    same(rt, &table.pattern().mask(), &mask);
+    same_for(rt, &table.entries(), &entries, &mask);
+    Ok(())
 }
 
 #[test]
@@ -55,9 +67,7 @@ fn tables_fold_to_one_byte_a_placement(rt: HostRuntime) -> Result<(), Fail> {
         ),
     ];
     for (file, mask, entries) in folds {
-        let table = folded(&rt, file)?;
-        assert_eq!(rt; table.pattern().mask(), mask);
-        assert_eq!(rt; table.entries(), entries, "mask {mask}");
+        expect_fold(&rt, file, mask, entries)?;
     }
     Ok(())
 }
@@ -75,7 +85,7 @@ fn a_look_needs_no_region_of_the_blank(rt: HostRuntime) -> Result<(), Fail> {
         ([1, 2, 0, 3], Count::Never),
     ];
     for (numbers, want) in looks {
-        assert_eq!(rt; told(&table, &numbers), Some(want), "{numbers:?}");
+        same_for(&rt, &told(&table, &numbers), &Some(want), &numbers);
     }
     Ok(())
 }
@@ -129,9 +139,9 @@ fn check_fold<R: Threads + Wait + AllocGlobal + Abort>(
     let costs = LeastCosts::new(rt.alloc(), tiles)?;
     let table = folded(rt, &costs.table(rt.alloc())?)?;
     let lists = placements(rt.alloc(), tiles.len())?;
-    assert_eq!(rt; table.entries().len(), lists.len());
+    same(rt, &table.entries().len(), &lists.len());
     for (entry, cells) in table.entries().iter().zip(&lists) {
-        assert_eq!(rt; *entry, least_cost(&costs, tiles, cells), "{cells:?}");
+        same_for(rt, entry, &least_cost(&costs, tiles, cells), &cells);
     }
     Ok(())
 }
@@ -160,27 +170,41 @@ fn taxicab(n: u8, from: u8, to: u8) -> u8 {
     rows.saturating_add((from % n).abs_diff(to % n))
 }
 
+/// The distances of the cells of a board from a tile's own.
+fn distances(alloc: Global, n: u8, cells: u8, tile: u8) -> Result<Vec<u8>, AllocError> {
+    let mut distances = Vec::new(alloc);
+    for cell in 0..cells {
+        distances.push(taxicab(n, cell, tile))?;
+    }
+    Ok(distances)
+}
+
+/// The table file of a single tile, whose counts are these distances.
+fn file_of_one<R: AllocGlobal + Abort>(
+    rt: &R,
+    n: u8,
+    tile: u8,
+    distances: &[u8],
+) -> Result<Vec<u8>, AllocError> {
+    let side = Side::of(n).expect(rt, "a side");
+    let mask = 1u32.wrapping_shl(u32::from(tile));
+    let pattern = Pattern::of_mask(side, mask).expect(rt, "a pattern");
+    let mut file = Vec::from_slice(rt.alloc(), &header_of(&pattern))?;
+    for distance in distances {
+        // A single tile leaves one region.
+        file.extend_from_slice(&[*distance, 254])?;
+    }
+    Ok(file)
+}
+
 #[test]
 fn single_tiles_fold_to_their_taxicab_distances(rt: HostRuntime) -> Result<(), Fail> {
     for (n, cells) in [(4, 16u8), (5, 25)] {
-        let side = Side::of(n).expect(&rt, "a side");
         for tile in 1..cells {
-            let mask = 1u32.wrapping_shl(u32::from(tile));
-            let pattern = Pattern::of_mask(side, mask).expect(&rt, "a pattern");
-            let mut file = Vec::from_slice(rt.alloc(), &header_of(&pattern))?;
-            let mut distances = Vec::new(rt.alloc());
-            for cell in 0..cells {
-                let distance = taxicab(n, cell, tile);
-                // A single tile leaves one region.
-                file.extend_from_slice(&[distance, 254])?;
-                distances.push(distance)?;
-            }
+            let distances = distances(rt.alloc(), n, cells, tile)?;
+            let file = file_of_one(&rt, n, tile, &distances)?;
             let table = folded(&rt, &file)?;
-            assert_eq!(rt;
-                table.entries(),
-                distances.as_slice(),
-                "tile {tile} of side {n}"
-            );
+            same_for(&rt, &table.entries(), &distances.as_slice(), &(tile, n));
         }
     }
     Ok(())
@@ -198,6 +222,6 @@ fn want_of_memory_is_answered_and_the_table_folds_again(rt: HostRuntime) -> Resu
         Ok(folded) => folded,
         Err(_) => fold(rt.alloc(), &table)?,
     };
-    assert_eq!(rt; told(&folded, &[3, 2, 1, 0]), Some(Count::Finite(4)));
+    same(&rt, &told(&folded, &[3, 2, 1, 0]), &Some(Count::Finite(4)));
     Ok(())
 }

@@ -1,6 +1,7 @@
 //! A table of more than 16 mebibytes.
 
 use crate::censuses::{bad_by_columns, bad_entry, census_by};
+use crate::same::{same, same_for};
 use std::alloc::{AllocError, Global};
 use std::test::Fail;
 use work_run::OpenGate;
@@ -25,10 +26,10 @@ fn a_table_of_36_mebibytes_is_checked(rt: HostRuntime) -> Result<(), Fail> {
     let file = of_255(rt.alloc())?;
     // The first placement has its tiles in the cells 0 to 4, and one region. Its own entry may be 255, as all beside it are,
     // and its second slot has none, so it would have to be 254.
-    assert_eq!(rt; bad_by_columns(&file), Some(1));
+    same(&rt, &bad_by_columns(&file), &Some(1));
     for workers in [1, 7] {
         let answer = census_by(&rt, &file, workers, &OpenGate);
-        assert_eq!(rt; answer, Err(bad_entry(1)), "{workers} workers");
+        same_for(&rt, &answer, &Err(bad_entry(1)), &("workers", workers));
     }
     Ok(())
 }

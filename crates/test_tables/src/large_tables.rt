@@ -3,14 +3,15 @@
 
 ghost use Rattle.work_run.specs.Workers.{AreWorkers};
 
-use crate::censuses::{bad_entry, census, census_by, expect_first_block_alone};
+use crate::censuses::{bad_entry, census_by, expect_bad, expect_first_block_alone, searched_table};
+use crate::same::{same, same_for};
 use std::alloc::{AllocError, Global};
 use std::process::Abort;
 use std::sync::Wait;
 use std::test::Fail;
 use std::thread::Threads;
 use tab_rule::TableFault;
-use test_samples::{HoldingGate, LeastCosts, Log};
+use test_samples::{HoldingGate, Log};
 use work_run::OpenGate;
 
 /// The header of all eight tiles on side 3: one slot, and 362,880 entries.
@@ -31,19 +32,14 @@ fn of_one_byte(alloc: Global, byte: u8) -> Result<Vec<u8>, AllocError> {
 #[test]
 fn tables_of_one_byte_are_refused(rt: HostRuntime) -> Result<(), Fail> {
     let of_zeros = of_one_byte(rt.alloc(), 0x00)?;
-    assert_eq!(rt; census(&rt, &of_zeros), Err(bad_entry(0)));
+    expect_bad(&rt, &of_zeros, 0);
     let without_regions = of_one_byte(rt.alloc(), 0xFE)?;
-    assert_eq!(rt; census(&rt, &without_regions), Err(bad_entry(0)));
+    expect_bad(&rt, &without_regions, 0);
     // Only the goal has to be other than 255. Each of its tiles leaves one free cell before it:
     // its rank is 8! + 7! + 6! + 5! + 4! + 3! + 2! + 1!.
     let without_ways = of_one_byte(rt.alloc(), 0xFF)?;
-    assert_eq!(rt; census(&rt, &without_ways), Err(bad_entry(46_233)));
+    expect_bad(&rt, &without_ways, 46_233);
     Ok(())
-}
-
-/// The exact table of these tiles on side 3.
-fn exact_table(alloc: Global, tiles: &[u8]) -> Result<Vec<u8>, AllocError> {
-    LeastCosts::new(alloc, tiles)?.table(alloc)
 }
 
 /// A file with another byte for one entry.
@@ -59,29 +55,40 @@ fn with_entry(alloc: Global, file: &[u8], number: u64, byte: u8) -> Result<Vec<u
     Ok(changed)
 }
 
+/// Checks that a file with another byte for one entry has this least bad entry.
+fn expect_change<R: Threads + Wait + AllocGlobal + Abort>(
+    rt: &R,
+    file: &[u8],
+    number: u64,
+    byte: u8,
+    least: u64,
+) -> Result<(), AllocError> {
+    let changed = with_entry(rt.alloc(), file, number, byte)?;
+    expect_bad(rt, &changed, least);
+    Ok(())
+}
+
 #[test]
 fn a_slot_without_a_region_is_found_in_any_run(rt: HostRuntime) -> Result<(), Fail> {
-    let file = exact_table(rt.alloc(), &[1, 2, 3, 4, 5, 6, 7])?;
+    let file = searched_table(rt.alloc(), &[1, 2, 3, 4, 5, 6, 7])?;
     // The placements leave the cells 7 and 8, 7 and 8, or 0 and 1: one region each, and a second slot without one, which
     // no other entry is compared with. Six entries are a run: these are of the first, the middle and the last.
     for number in [1, 181_441, 362_879] {
-        assert_eq!(rt; file.get(number as usize + 20), Some(&254));
-        let changed = with_entry(rt.alloc(), &file, number, 0)?;
-        assert_eq!(rt; census(&rt, &changed), Err(bad_entry(number)));
+        same(&rt, &(file.get(number as usize + 20)), &Some(&254));
+        expect_change(&rt, &file, number, 0, number)?;
     }
     Ok(())
 }
 
 #[test]
 fn a_changed_entry_of_the_eight_puzzle_is_found_in_any_run(rt: HostRuntime) -> Result<(), Fail> {
-    let file = exact_table(rt.alloc(), &[1, 2, 3, 4, 5, 6, 7, 8])?;
+    let file = searched_table(rt.alloc(), &[1, 2, 3, 4, 5, 6, 7, 8])?;
     // Two entries are a run: these are of the first, the middle and the last. In the first two the blank is in cell 8, so
     // a move takes a tile to a greater cell, and both entries one move away come later. The last one has the tiles in the
     // cells 8, 7 and so on. With a zero there both entries one move away would have to be 1, and the goal is farther:
     // the lesser of the two is that of tile 6 in cell 0, where 21 entries are left behind it.
     for (number, byte, least) in [(0, 254, 0), (181_440, 254, 181_440), (362_879, 0, 362_858)] {
-        let changed = with_entry(rt.alloc(), &file, number, byte)?;
-        assert_eq!(rt; census(&rt, &changed), Err(bad_entry(least)));
+        expect_change(&rt, &file, number, byte, least)?;
     }
     Ok(())
 }
@@ -98,16 +105,16 @@ fn check_entered<R: Threads + Wait + AllocGlobal + Abort>(
     assert!(rt; census_by(rt, file, workers, &log).is_ok());
     let mut blocks = log.notes(rt.alloc())?;
     blocks.sort()?;
-    assert_eq!(rt; blocks.len(), 1418, "{workers} workers");
+    same_for(rt, &blocks.len(), &1418, &("workers", workers));
     for (block, entered) in (0..).zip(&blocks) {
-        assert_eq!(rt; *entered, block);
+        same(rt, entered, &block);
     }
     Ok(())
 }
 
 #[test]
 fn each_block_is_entered_once(rt: HostRuntime) -> Result<(), Fail> {
-    let file = exact_table(rt.alloc(), &[1, 2, 3, 4, 5, 6, 7, 8])?;
+    let file = searched_table(rt.alloc(), &[1, 2, 3, 4, 5, 6, 7, 8])?;
     for workers in [1, 2, 7, 64] {
         check_entered(&rt, &file, workers)?;
     }
@@ -124,7 +131,7 @@ fn two_workers_check_two_blocks_side_by_side(rt: HostRuntime) -> Result<(), Fail
     let file = of_one_byte(rt.alloc(), 0xFF)?;
     let gate = HoldingGate::new(&[0], &[1]);
     let answer = census_by(&rt, &file, 2, &gate);
-    assert_eq!(rt; answer, Err(bad_entry(46_233)));
+    same(&rt, &answer, &Err(bad_entry(46_233)));
     assert!(rt; gate.saw_all());
     Ok(())
 }
@@ -140,6 +147,6 @@ fn want_of_memory_for_the_rows_changes_no_answer(rt: HostRuntime) -> Result<(), 
     if answer == Err(TableFault::Memory) {
         answer = census_by(&rt, &file, 2, &OpenGate);
     }
-    assert_eq!(rt; answer, Err(bad_entry(46_233)));
+    same(&rt, &answer, &Err(bad_entry(46_233)));
     Ok(())
 }

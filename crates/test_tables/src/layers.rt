@@ -1,5 +1,6 @@
 //! Entries of counts, and layers of tables.
 
+use crate::same::{same, same_for};
 use std::test::Fail;
 use tab_make::{entry_of, layer};
 use test_samples::files::TILES_123;
@@ -13,7 +14,7 @@ fn entries_hold_counts_to_253(rt: HostRuntime) {
         (u32::MAX, None),
     ];
     for (count, entry) in cases {
-        assert_eq!(rt; entry_of(count), entry, "{count}");
+        same_for(&rt, &entry_of(count), &entry, &count);
     }
 }
 
@@ -28,7 +29,7 @@ fn layers_are_ascending_numbers(rt: HostRuntime) -> Result<(), Fail> {
     ];
     for (entries, count, numbers) in cases {
         let found = layer(&rt, rt.alloc(), entries, count)?;
-        assert_eq!(rt; found.as_slice(), numbers);
+        same(&rt, &found.as_slice(), &numbers);
     }
     Ok(())
 }
@@ -40,8 +41,8 @@ fn long_layers_go_to_the_last_entry(rt: HostRuntime) -> Result<(), Fail> {
     entries[2500] = 3;
     entries[4999] = 3;
     let found = layer(&rt, rt.alloc(), &entries, 3)?;
-    assert_eq!(rt; found.as_slice(), [0, 2500, 4999].as_slice());
-    assert_eq!(rt; layer(&rt, rt.alloc(), &entries, 1)?.len(), 4997);
+    same(&rt, &found.as_slice(), &[0, 2500, 4999].as_slice());
+    same(&rt, &layer(&rt, rt.alloc(), &entries, 1)?.len(), &4997);
     Ok(())
 }
 
@@ -53,6 +54,6 @@ fn layers_are_listed_after_want_of_memory(rt: HostRuntime) -> Result<(), Fail> {
         Err(_) => layer(&rt, rt.alloc(), entries, 4)?,
         Ok(found) => found,
     };
-    assert_eq!(rt; found.as_slice(), [17, 21].as_slice());
+    same(&rt, &found.as_slice(), &[17, 21].as_slice());
     Ok(())
 }

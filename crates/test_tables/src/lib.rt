@@ -26,6 +26,8 @@ mod making;
 #[cfg(test)]
 mod runs;
 #[cfg(test)]
+mod same;
+#[cfg(test)]
 mod searches;
 #[cfg(test)]
 mod tables;

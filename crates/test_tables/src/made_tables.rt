@@ -1,5 +1,6 @@
 //! Tables that are built: known ones byte by byte, and others that the checker accepts. Want of memory is answered.
 
+use crate::same::same;
 use pat_place::Pattern;
 use puz_board::Side;
 use std::process::Abort;
@@ -35,7 +36,7 @@ fn accept<R: Threads + Wait + Sync + AllocGlobal + Abort>(rt: &R, n: u8, mask: u
     for workers in [1, 2, 7] {
         expect_built(rt, n, mask, &file);
         let table = check_table(rt, rt.alloc(), &file, workers, &OpenGate);
-        assert_eq!(rt; table.map(|table| table.pattern().mask()), Ok(mask));
+        same(rt, &table.map(|table| table.pattern().mask()), &Ok(mask));
     }
 }
 
@@ -94,7 +95,7 @@ fn want_of_memory_is_answered(rt: HostRuntime) {
     for (n, mask, want) in tables {
         let file = match built(&rt, n, mask) {
             Err(fault) => {
-                assert_eq!(rt; fault, MakeFault::Memory);
+                same(&rt, &fault, &MakeFault::Memory);
                 built(&rt, n, mask)
             }
             made => made,

@@ -2,12 +2,13 @@
 
 ghost use Rattle.std.specs.Prelude.{◌≡◌};
 
+use crate::censuses::exact;
+use crate::same::same;
 use edge_words::{WordRoom, Words, index_count};
 use puz_board::{Board, Move};
 use std::process::Abort;
 use std::sync::Wait;
 use std::thread::Threads;
-use tab_check::check_table;
 use tab_rule::{CheckedTable, Count};
 use work_run::{OpenGate, Workers};
 
@@ -17,10 +18,7 @@ pub(crate) fn words_of<R: Threads + Wait + Sync + AllocGlobal + Abort>(
     file: &[u8],
     workers: u8,
 ) -> Option<Words> {
-    let table = check_table(rt, rt.alloc(), file, 1, &OpenGate)
-        .ok()
-        .expect(rt, "an exact table");
-    words_by(rt, &table, workers)
+    words_by(rt, &exact(rt, file), workers)
 }
 
 /// The words of a table by so many workers, if there are any.
@@ -106,17 +104,12 @@ pub(crate) fn expect_move<R: Abort>(
         before.get(usize::from(*tile)) != after.get(usize::from(*tile))
     });
     let Some(place) = moved else {
-        assert_eq!(rt; index(rt, words, board), index(rt, words, next));
+        same(rt, &index(rt, words, board), &index(rt, words, next));
         return false;
     };
-    assert_eq!(rt;
-        bit(
-            words,
-            index(rt, words, board),
-            u8::try_from(place).unwrap_or(9),
-            mv
-        ),
-        Some(told(rt, table, board) < told(rt, table, next))
-    );
+    let place = u8::try_from(place).unwrap_or(9);
+    let rises = told(rt, table, board) < told(rt, table, next);
+    let bit = bit(words, index(rt, words, board), place, mv);
+    same(rt, &bit, &Some(rises));
     true
 }

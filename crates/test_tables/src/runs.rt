@@ -1,13 +1,14 @@
 //! The check by runs on known tables and on changed ones, beside that by columns, and which sets have rows.
 
+use crate::censuses::searched_table;
+use crate::files::viewed;
+use crate::same::{same, same_for};
 use pat_place::Pattern;
 use puz_board::Side;
 use std::process::Abort;
 use std::test::Fail;
 use tab_check::{block_count, check_block};
-use tab_file::view;
 use tab_runs::{RowTable, check_runs};
-use test_samples::LeastCosts;
 use test_samples::files::{
     FOURTEEN_BLOCKS, TILE_1, TILE_1_NEVER, TILE_3, TILE_24, TILES_12, TILES_123, TWO_BLOCKS,
     with_byte,
@@ -15,14 +16,14 @@ use test_samples::files::{
 
 /// The least bad entry of each block that has one, by runs. By columns each block has the same answer.
 fn bad_entries<R: AllocGlobal + Abort>(rt: &R, file: &[u8]) -> Result<Vec<u64>, Fail> {
-    let table = view(file).ok().expect(rt, "a table file");
+    let table = viewed(rt, file);
     let rows = RowTable::build(rt.alloc(), &table.pattern())?;
     let mut found = Vec::new(rt.alloc());
     for block in 0..block_count(&table.pattern()) {
         let number = check_runs(&table, &rows, block)
             .ok()
             .expect(rt, "the rows of each set");
-        assert_eq!(rt; number, check_block(&table, block), "block {block}");
+        same_for(rt, &number, &check_block(&table, block), &("block", block));
         if let Some(number) = number {
             found.push(number)?;
         }
@@ -30,11 +31,18 @@ fn bad_entries<R: AllocGlobal + Abort>(rt: &R, file: &[u8]) -> Result<Vec<u64>, 
     Ok(found)
 }
 
+/// Checks how many blocks of a file have a bad entry.
+fn expect_count<R: AllocGlobal + Abort>(rt: &R, file: &[u8], count: usize) -> Result<(), Fail> {
+    let found = bad_entries(rt, file)?;
+    same_for(rt, &found.len(), &count, &file.last());
+    Ok(())
+}
+
 #[test]
 fn known_tables_have_no_bad_entry(rt: HostRuntime) -> Result<(), Fail> {
     let files: [&[u8]; 5] = [&TILES_123, &TILES_12, &TILE_1, &TILE_3, &TILE_24];
     for file in files {
-        assert!(rt; bad_entries(&rt, file)?.is_empty());
+        expect_count(&rt, file, 0)?;
     }
     Ok(())
 }
@@ -47,8 +55,17 @@ fn the_least_bad_entry_is_found(rt: HostRuntime) -> Result<(), Fail> {
         (&TILE_1_NEVER, 1),
     ];
     for (file, number) in files {
-        assert_eq!(rt; bad_entries(&rt, file)?.as_slice(), [number].as_slice());
+        let found = bad_entries(&rt, file)?;
+        same(&rt, &found.as_slice(), &[number].as_slice());
     }
+    Ok(())
+}
+
+/// Checks that `TILES_12` with this byte in a place has no bad entry exactly where it is the same file.
+fn expect_found<R: AllocGlobal + Abort>(rt: &R, place: usize, byte: u8) -> Result<(), Fail> {
+    let file = with_byte(&TILES_12, place, byte);
+    let none = bad_entries(rt, &file)?.is_empty();
+    same_for(rt, &none, &(file == TILES_12), &(place, byte));
     Ok(())
 }
 
@@ -56,13 +73,7 @@ fn the_least_bad_entry_is_found(rt: HostRuntime) -> Result<(), Fail> {
 fn each_changed_byte_is_found(rt: HostRuntime) -> Result<(), Fail> {
     for place in 20..44 {
         for byte in [0x00, 0x01, 0x07, 0xFD, 0xFE, 0xFF] {
-            let file = with_byte(&TILES_12, place, byte);
-            let changed = file != TILES_12;
-            assert_eq!(rt;
-                bad_entries(&rt, &file)?.is_empty(),
-                !changed,
-                "{place} {byte}"
-            );
+            expect_found(&rt, place, byte)?;
         }
     }
     Ok(())
@@ -70,7 +81,7 @@ fn each_changed_byte_is_found(rt: HostRuntime) -> Result<(), Fail> {
 
 /// Whether the exact table of these tiles on side 3 has no bad entry, and one alone where its last entry is changed.
 fn is_checked<R: AllocGlobal + Abort>(rt: &R, tiles: &[u8], last: u64) -> Result<bool, Fail> {
-    let mut file = LeastCosts::new(rt.alloc(), tiles)?.table(rt.alloc())?;
+    let mut file = searched_table(rt.alloc(), tiles)?;
     let none = bad_entries(rt, &file)?.is_empty();
     let entry = file.pop().expect(rt, "an entry");
     file.push(if entry == 0 { 1 } else { 0 })?;
@@ -90,10 +101,10 @@ fn tables_of_one_byte_have_bad_entries_in_each_block(rt: HostRuntime) -> Result<
     for byte in [0x00, 0x01, 0x40, 0xFD, 0xFE, 0xFF] {
         let mut file = [byte; 2036];
         file[..20].copy_from_slice(&TWO_BLOCKS);
-        assert_eq!(rt; bad_entries(&rt, &file)?.len(), 2, "{byte}");
+        expect_count(&rt, &file, 2)?;
         let mut file = [byte; 13460];
         file[..20].copy_from_slice(&FOURTEEN_BLOCKS);
-        assert_eq!(rt; bad_entries(&rt, &file)?.len(), 14, "{byte}");
+        expect_count(&rt, &file, 14)?;
     }
     Ok(())
 }
@@ -119,7 +130,7 @@ fn each_set_of_the_right_size_has_rows_and_no_other(rt: HostRuntime) -> Result<(
         let tiles = u32::from(pattern.size());
         for set in 0..1u32 << pattern.side().cells() {
             let kept = rows.of_set(set).is_some();
-            assert_eq!(rt; kept, set.count_ones() + 1 == tiles, "{side} {set}");
+            same_for(&rt, &kept, &(set.count_ones() + 1 == tiles), &(side, set));
         }
     }
     Ok(())
@@ -131,7 +142,7 @@ fn the_slots_with_a_region_are_told(rt: HostRuntime) -> Result<(), Fail> {
     let rows = RowTable::build(rt.alloc(), &pattern)?;
     // One tile is in cell 0. With the other in cell 1 or 2 the free cells are one region, and with it in cell 3 they are two.
     let told = rows.of_set(1).expect(&rt, "kept");
-    assert_eq!(rt; told.kinds, [2, 0, 2, 0, 2, 2].as_slice());
+    same(&rt, &told.kinds, &[2, 0, 2, 0, 2, 2].as_slice());
     Ok(())
 }
 

@@ -1,5 +1,9 @@
 //! The search against known numbers, and the gates by one thread.
 
+use crate::censuses::searched_table;
+use crate::same::same;
+use std::alloc::AllocError;
+use std::process::Abort;
 use std::test::Fail;
 use test_samples::{HoldingGate, LeastCosts, Log};
 use work_run::Gate;
@@ -12,17 +16,17 @@ fn count_of(file: &[u8], byte: u8) -> usize {
 #[test]
 fn the_eight_puzzle_has_its_known_numbers(rt: HostRuntime) -> Result<(), Fail> {
     let costs = LeastCosts::new(rt.alloc(), &[1, 2, 3, 4, 5, 6, 7, 8])?;
-    assert_eq!(rt; costs.of(&[0, 1, 2, 3, 4, 5, 6, 7, 8]), 0);
-    assert_eq!(rt; costs.of(&[1, 0, 2, 3, 4, 5, 6, 7, 8]), 1);
-    assert_eq!(rt; costs.of(&[0, 2, 1, 3, 4, 5, 6, 7, 8]), 255);
+    same(&rt, &costs.of(&[0, 1, 2, 3, 4, 5, 6, 7, 8]), &0);
+    same(&rt, &costs.of(&[1, 0, 2, 3, 4, 5, 6, 7, 8]), &1);
+    same(&rt, &costs.of(&[0, 2, 1, 3, 4, 5, 6, 7, 8]), &255);
     let file = costs.table(rt.alloc())?;
     let header = b"PDBT\x01\x03\x08\0\0\0\x01\xFE\0\0\0\0\0\x05\x89\x80".as_slice();
     assert!(rt; file.starts_with(header));
-    assert_eq!(rt; file.len(), 362_900);
-    assert_eq!(rt; count_of(&file, 255), 181_440);
+    same(&rt, &file.len(), &362_900);
+    same(&rt, &count_of(&file, 255), &181_440);
     // Two boards are 31 moves away, and none is farther.
-    assert_eq!(rt; count_of(&file, 31), 2);
-    assert_eq!(rt; count_of(&file, 32), 0);
+    same(&rt, &count_of(&file, 31), &2);
+    same(&rt, &count_of(&file, 32), &0);
     Ok(())
 }
 
@@ -30,14 +34,14 @@ fn the_eight_puzzle_has_its_known_numbers(rt: HostRuntime) -> Result<(), Fail> {
 fn slots_without_a_region_and_several_regions_have_their_entries(
     rt: HostRuntime,
 ) -> Result<(), Fail> {
-    let file = LeastCosts::new(rt.alloc(), &[1, 2, 3])?.table(rt.alloc())?;
+    let file = searched_table(rt.alloc(), &[1, 2, 3])?;
     let header = b"PDBT\x01\x03\x03\0\0\0\0\x0E\0\0\0\0\0\0\x07\xE0".as_slice();
     assert!(rt; file.starts_with(header));
-    assert_eq!(rt; file.len(), 2036);
+    same(&rt, &file.len(), &2036);
     // Rank 64 has the tiles at home, in the cells 1, 2 and 3: cell 0 alone, and the cells 4 to 8.
     let home = file.get(20 + 4 * 64..20 + 4 * 65).unwrap_or(&[]);
-    assert_eq!(rt; home.first(), Some(&0));
-    assert_eq!(rt; home.get(2..), Some([254, 254].as_slice()));
+    same(&rt, &home.first(), &Some(&0));
+    same(&rt, &home.get(2..), &Some([254, 254].as_slice()));
     Ok(())
 }
 
@@ -63,14 +67,21 @@ fn a_gate_lets_jobs_of_other_places_pass(rt: HostRuntime) {
     assert!(rt; gate.saw_all());
 }
 
+/// Checks what a log has noted.
+fn expect_notes<R: AllocGlobal + Abort>(rt: &R, log: &Log, jobs: &[u64]) -> Result<(), AllocError> {
+    let notes = log.notes(rt.alloc())?;
+    same(rt, &notes.as_slice(), &jobs);
+    Ok(())
+}
+
 #[test]
 fn a_log_keeps_the_order_and_counts_what_it_has_no_room_for(rt: HostRuntime) -> Result<(), Fail> {
     let log = Log::new(rt.alloc(), 2)?;
     log.before(7);
-    assert_eq!(rt; log.notes(rt.alloc())?.as_slice(), [7].as_slice());
+    expect_notes(&rt, &log, &[7])?;
     log.note(5);
     log.note(6);
-    assert_eq!(rt; log.notes(rt.alloc())?.as_slice(), [7, 5].as_slice());
-    assert_eq!(rt; log.count(), 3);
+    expect_notes(&rt, &log, &[7, 5])?;
+    same(&rt, &log.count(), &3);
     Ok(())
 }

@@ -1,13 +1,17 @@
 //! Known tables, tables by a search of their own and changed ones, by several workers, and gates that watch and hold them.
 
-use crate::censuses::{bad_entry, census, census_by, expect_first_block_alone, head_fault};
+use crate::censuses::{
+    bad_entry, census_by, exact, expect_bad, expect_census, expect_first_block_alone, head_fault,
+};
+use crate::files::viewed;
+use crate::same::{same, same_for};
 use puz_board::Board;
 use std::process::Abort;
 use std::sync::Wait;
 use std::test::Fail;
 use std::thread::Threads;
 use tab_check::{BLOCK_RANKS, Census, CheckedTable, Count, TableFault, check_block, check_table};
-use tab_file::{HeadFault, view};
+use tab_file::HeadFault;
 use test_samples::files::{
     FOURTEEN_BLOCKS, TILE_1, TILE_1_NEVER, TILE_3, TILE_24, TILES_12, TILES_123, TWO_BLOCKS,
     with_byte, with_one_more,
@@ -68,7 +72,7 @@ fn exact_tables_are_accepted_and_counted(rt: HostRuntime) {
             unreachable,
             deepest,
         };
-        assert_eq!(rt; census(&rt, file), Ok(want));
+        expect_census(&rt, file, Ok(want));
     }
 }
 
@@ -83,11 +87,12 @@ fn boards_are_looked_up(rt: HostRuntime) {
         (&TILES_12, [1, 0, 2, 3], Count::Finite(1)),
     ];
     for (file, numbers, want) in looks {
-        assert_eq!(rt; look(&rt, file, &numbers), Some(want), "{numbers:?}");
-        assert_eq!(rt;
-            look_by_slots(&rt, file, &numbers),
-            Some(want),
-            "{numbers:?}"
+        same_for(&rt, &look(&rt, file, &numbers), &Some(want), &numbers);
+        same_for(
+            &rt,
+            &look_by_slots(&rt, file, &numbers),
+            &Some(want),
+            &numbers,
         );
     }
 }
@@ -100,13 +105,13 @@ fn the_least_bad_entry_is_named(rt: HostRuntime) {
         (&TILE_1_NEVER, 1),
     ];
     for (file, number) in files {
-        assert_eq!(rt; census(&rt, file), Err(bad_entry(number)));
+        expect_bad(&rt, file, number);
     }
 }
 
 /// The least bad entry of a block.
 fn bad_in(rt: &impl Abort, file: &[u8], block: u64) -> Option<u64> {
-    let table = view(file).ok().expect(rt, "a table file");
+    let table = viewed(rt, file);
     assert!(rt; block < table.pattern().count().div_ceil(BLOCK_RANKS));
     check_block(&table, block)
 }
@@ -115,12 +120,12 @@ fn bad_in(rt: &impl Abort, file: &[u8], block: u64) -> Option<u64> {
 fn tables_of_one_byte_are_refused(rt: HostRuntime) {
     let mut file = [0xFE; 2036];
     file[..20].copy_from_slice(&TWO_BLOCKS);
-    assert_eq!(rt; census(&rt, &file), Err(bad_entry(0)));
-    assert_eq!(rt; bad_in(&rt, &file, 0), Some(0));
-    assert_eq!(rt; bad_in(&rt, &file, 1), Some(1024));
+    expect_bad(&rt, &file, 0);
+    same(&rt, &bad_in(&rt, &file, 0), &Some(0));
+    same(&rt, &bad_in(&rt, &file, 1), &Some(1024));
     let mut file = [0xFF; 2036];
     file[..20].copy_from_slice(&TWO_BLOCKS);
-    assert_eq!(rt; census(&rt, &file), Err(bad_entry(1)));
+    expect_bad(&rt, &file, 1);
 }
 
 /// The placements of two tiles on side 2, in the order of their ranks.
@@ -247,20 +252,32 @@ fn least_bad(placements: &[[u8; 3]], entries: &[u8]) -> Option<u64> {
     None
 }
 
+/// Checks that a file with this byte in a place is refused for the least entry that breaks the rule, and is the same file where
+/// none does.
+fn expect_change<R: Threads + Wait + AllocGlobal + Abort>(
+    rt: &R,
+    file: &[u8; 44],
+    placements: &[[u8; 3]],
+    place: usize,
+    byte: u8,
+) {
+    let changed = with_byte(file, place, byte);
+    let want = least_bad(placements, &changed[20..]);
+    same_for(rt, &want.is_none(), &(changed == *file), &(byte, place));
+    let fault = checked(rt, &changed).err();
+    same_for(rt, &fault, &want.map(bad_entry), &(byte, place));
+}
+
 #[test]
 fn each_changed_byte_is_refused(rt: HostRuntime) {
     for (file, placements) in [
         (&TILES_12, OF_TWO.as_slice()),
         (&TILES_123, OF_THREE.as_slice()),
     ] {
-        assert_eq!(rt; least_bad(placements, &file[20..]), None);
+        same(&rt, &least_bad(placements, &file[20..]), &None);
         for place in 20..44 {
             for byte in 0..=255 {
-                let changed = with_byte(file, place, byte);
-                let want = least_bad(placements, &changed[20..]);
-                assert_eq!(rt; want.is_none(), byte == file[place]);
-                let fault = checked(&rt, &changed).err();
-                assert_eq!(rt; fault, want.map(bad_entry), "byte {byte} at {place}");
+                expect_change(&rt, file, placements, place, byte);
             }
         }
     }
@@ -280,12 +297,7 @@ fn head_faults_are_handed_on(rt: HostRuntime) {
     for (place, byte, want) in changes {
         let file = with_byte(&TILES_123, place, byte);
         for file in [file.as_slice(), &file[..30]] {
-            assert_eq!(rt;
-                census(&rt, file),
-                Err(head_fault(want)),
-                "byte {place} of {}",
-                file.len()
-            );
+            expect_census(&rt, file, Err(head_fault(want)));
         }
     }
 }
@@ -300,12 +312,7 @@ fn files_of_another_length_are_refused(rt: HostRuntime) {
         (&with_one_more(&TILES_123), HeadFault::T6),
     ];
     for (file, want) in files {
-        assert_eq!(rt;
-            census(&rt, file),
-            Err(head_fault(want)),
-            "{} bytes",
-            file.len()
-        );
+        expect_census(&rt, file, Err(head_fault(want)));
     }
     for len in 0..44 {
         let want = if len < 20 {
@@ -314,7 +321,7 @@ fn files_of_another_length_are_refused(rt: HostRuntime) {
             HeadFault::T6
         };
         let cut = census_by(&rt, &TILES_123[..len], 1, &OpenGate);
-        assert_eq!(rt; cut, Err(head_fault(want)), "{len} bytes");
+        same_for(&rt, &cut, &Err(head_fault(want)), &("bytes", len));
     }
 }
 
@@ -354,10 +361,10 @@ fn exact_census<R: Threads + Wait + AllocGlobal + Abort>(
     let costs = LeastCosts::new(rt.alloc(), tiles)?;
     let file = costs.table(rt.alloc())?;
     let want = counted(&file);
-    assert_eq!(rt; census(rt, &file), Ok(want));
-    let table = checked(rt, &file).ok().expect(rt, "an exact table");
-    for numbers in BOARDS {
-        check_look(rt, &table, &numbers, costs.of(&numbers));
+    expect_census(rt, &file, Ok(want));
+    let table = exact(rt, &file);
+    for numbers in &BOARDS {
+        check_look(rt, &table, numbers, costs.of(numbers));
     }
     Ok(want)
 }
@@ -368,21 +375,21 @@ fn check_look(rt: &impl Abort, table: &CheckedTable<'_>, numbers: &[u8; 9], cost
         255 => Count::Never,
         cost => Count::Finite(u16::from(cost)),
     };
-    assert_eq!(rt; told(table, numbers), Some(count), "{numbers:?}");
+    same_for(rt, &told(table, numbers), &Some(count), &numbers);
 }
 
 #[test]
 fn three_tiles_of_side_3_are_exact(rt: HostRuntime) -> Result<(), Fail> {
     let census = exact_census(&rt, &[1, 2, 3])?;
-    assert_eq!(rt; census.entries, 2016);
-    assert_eq!(rt; census.unreachable, 0);
+    same(&rt, &census.entries, &2016);
+    same(&rt, &census.unreachable, &0);
     Ok(())
 }
 
 #[test]
 fn seven_tiles_of_side_3_are_exact(rt: HostRuntime) -> Result<(), Fail> {
     let census = exact_census(&rt, &[1, 2, 3, 4, 5, 6, 7])?;
-    assert_eq!(rt; census.entries, 362_880);
+    same(&rt, &census.entries, &362_880);
     Ok(())
 }
 
@@ -393,7 +400,7 @@ fn the_eight_puzzle_is_exact(rt: HostRuntime) -> Result<(), Fail> {
         unreachable: 181_440,
         deepest: 31,
     };
-    assert_eq!(rt; exact_census(&rt, &[1, 2, 3, 4, 5, 6, 7, 8])?, want);
+    same(&rt, &exact_census(&rt, &[1, 2, 3, 4, 5, 6, 7, 8])?, &want);
     Ok(())
 }
 
@@ -409,7 +416,7 @@ fn four_workers_check_four_blocks_side_by_side(rt: HostRuntime) {
     let mut file = [0xFF; 13460];
     file[..20].copy_from_slice(&FOURTEEN_BLOCKS);
     let gate = HoldingGate::new(&[0, 1, 2, 3], &[0, 1, 2, 3]);
-    assert_eq!(rt; census_by(&rt, &file, 4, &gate), Err(bad_entry(1)));
+    same(&rt, &census_by(&rt, &file, 4, &gate), &Err(bad_entry(1)));
     assert!(rt; gate.saw_all());
 }
 
@@ -421,5 +428,5 @@ fn want_of_memory_is_answered_and_a_second_check_finds_the_fault(rt: HostRuntime
     if fault == Err(TableFault::Memory) {
         fault = census_by(&rt, &file, 7, &OpenGate);
     }
-    assert_eq!(rt; fault, Err(bad_entry(14)));
+    same(&rt, &fault, &Err(bad_entry(14)));
 }

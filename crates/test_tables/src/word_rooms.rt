@@ -1,6 +1,8 @@
 //! Which patterns have words, those of tables with boards that never come home, and rooms for words that are taken first.
 
+use crate::censuses::exact;
 use crate::making::{expect_move, filled, room_for, words_by};
+use crate::same::{same, same_for};
 use edge_words::{WordRoom, Words, index_count};
 use pat_place::Pattern;
 use puz_board::{Board, MOVES, Side};
@@ -24,10 +26,10 @@ fn indexes(n: u8, mask: u32) -> Option<usize> {
 
 #[test]
 fn of_all_patterns_only_eight_tiles_of_side_4_have_too_many_indexes(rt: HostRuntime) {
-    assert_eq!(rt; indexes(4, EIGHT), None);
-    assert_eq!(rt; indexes(4, SEVEN), Some(268_435_456));
-    assert_eq!(rt; indexes(3, EIGHT), Some(43_046_721));
-    assert_eq!(rt; indexes(5, 0b111_1110), Some(244_140_625));
+    same(&rt, &indexes(4, EIGHT), &None);
+    same(&rt, &indexes(4, SEVEN), &Some(268_435_456));
+    same(&rt, &indexes(3, EIGHT), &Some(43_046_721));
+    same(&rt, &indexes(5, 0b111_1110), &Some(244_140_625));
 }
 
 #[test]
@@ -89,12 +91,10 @@ const WITHOUT_WAYS: [([u8; 44], [u32; 2]); 2] = [(TILES_12, [12, 16]), (TILES_12
 #[test]
 fn tables_with_boards_that_never_come_home_have_words(rt: HostRuntime) {
     for (file, told) in &WITHOUT_WAYS {
-        let table = check_table(&rt, rt.alloc(), file, 1, &OpenGate)
-            .ok()
-            .expect(&rt, "an exact table");
+        let table = exact(&rt, file);
         for workers in [1, 2, 7, 64] {
             let words = words_by(&rt, &table, workers).expect(&rt, "words");
-            assert_eq!(rt; expect_bits(&rt, &table, &words), *told, "{workers}");
+            same_for(&rt, &expect_bits(&rt, &table, &words), told, &workers);
         }
     }
 }
@@ -102,13 +102,11 @@ fn tables_with_boards_that_never_come_home_have_words(rt: HostRuntime) {
 #[test]
 fn words_of_side_2_in_a_room_that_is_taken_first_are_as_the_table_tells(rt: HostRuntime) {
     for (file, told) in &WITHOUT_WAYS {
-        let table = check_table(&rt, rt.alloc(), file, 1, &OpenGate)
-            .ok()
-            .expect(&rt, "an exact table");
+        let table = exact(&rt, file);
         for workers in [1, 2, 7, 64] {
             let room = room_for(&rt, &table);
             let words = filled(&rt, room, &table, workers);
-            assert_eq!(rt; expect_bits(&rt, &table, &words), *told, "{workers}");
+            same_for(&rt, &expect_bits(&rt, &table, &words), told, &workers);
         }
     }
 }
@@ -129,15 +127,16 @@ fn want_of_memory_for_words_is_answered_and_a_second_room_is_filled_in(
         Err(AllocError) => WordRoom::of(rt.alloc(), &table.pattern())?,
     };
     let words = filled(&rt, room.expect(&rt, "a room"), &table, 1);
-    assert_eq!(rt; expect_bits(&rt, &table, &words), *told);
+    same(&rt, &expect_bits(&rt, &table, &words), told);
     let one = Workers::new(&rt, rt.alloc(), 1, &OpenGate);
     let words = match Words::of(&table, &one) {
         Ok(words) => words,
         Err(AllocError) => Words::of(&table, &one)?,
     };
-    assert_eq!(rt;
-        expect_bits(&rt, &table, &words.expect(&rt, "words")),
-        *told
+    same(
+        &rt,
+        &expect_bits(&rt, &table, &words.expect(&rt, "words")),
+        told,
     );
     Ok(())
 }

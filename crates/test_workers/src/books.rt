@@ -5,6 +5,7 @@ ghost use Rattle.book_core.specs.Books.{AreWorkers};
 ghost use Rattle.book_core.specs.Passes.{fresh};
 ghost use Rattle.book_live.specs.Closing.{IsNewPass};
 
+use crate::same::same;
 use book_live::{Book, Pass};
 use std::alloc::{AllocError, Global};
 use std::sync::atomic::{AtomicU64, Ordering};
@@ -26,28 +27,29 @@ fn book_of_two(alloc: Global, jobs: u64) -> Result<(Book, Pass, Pass), AllocErro
 
 #[test]
 fn two_passes_share_two_jobs(rt: HostRuntime) -> Result<(), Fail> {
+    // That the passes have drawn is known of what is asserted in place, so that they may draw again.
     let (book, mut first, mut second) = book_of_two(rt.alloc(), 2)?;
     assert_eq!(rt; book.claim(&mut first), Some(0));
     assert_eq!(rt; book.claim(&mut second), Some(1));
     book.report(&mut second, 9);
-    assert_eq!(rt; book.look(&mut first), Some(9));
+    same(&rt, &book.look(&mut first), &Some(9));
     book.report(&mut first, 4);
-    assert_eq!(rt; book.claim(&mut first), None);
-    assert_eq!(rt; book.claim(&mut second), None);
-    assert_eq!(rt; (first.number(), second.number()), (0, 1));
+    same(&rt, &book.claim(&mut first), &None);
+    same(&rt, &book.claim(&mut second), &None);
+    same(&rt, &(first.number(), second.number()), &(0, 1));
     assert!(rt; first.ended() && second.ended());
     let passes = vec![in rt.alloc(); first, second]?;
-    assert_eq!(rt; book.close(passes), Some(4));
+    same(&rt, &book.close(passes), &Some(4));
     Ok(())
 }
 
 #[test]
 fn a_look_shows_nothing_before_the_first_report(rt: HostRuntime) -> Result<(), Fail> {
     let (book, mut first, mut second) = book_of_two(rt.alloc(), 0)?;
-    assert_eq!(rt; book.look(&mut first), None);
+    same(&rt, &book.look(&mut first), &None);
     book.report(&mut second, 4_294_967_295);
-    assert_eq!(rt; book.look(&mut first), Some(4_294_967_295));
-    assert_eq!(rt; (first.ended(), second.ended()), (false, false));
+    same(&rt, &book.look(&mut first), &Some(4_294_967_295));
+    same(&rt, &(first.ended(), second.ended()), &(false, false));
     Ok(())
 }
 
@@ -58,9 +60,9 @@ fn want_of_memory_is_answered_and_a_second_book_is_made(rt: HostRuntime) -> Resu
         Ok(made) => made,
         Err(_) => book_of_two(rt.alloc(), 2)?,
     };
-    assert_eq!(rt; book.claim(&mut first), Some(0));
-    assert_eq!(rt; book.look(&mut first), None);
-    assert_eq!(rt; (second.number(), second.ended()), (1, false));
+    same(&rt, &book.claim(&mut first), &Some(0));
+    same(&rt, &book.look(&mut first), &None);
+    same(&rt, &(second.number(), second.ended()), &(1, false));
     Ok(())
 }
 
@@ -144,8 +146,9 @@ fn close_after_threads<R: Threads + Sync>(
 #[test]
 fn a_book_of_no_jobs_ends_64_passes(rt: HostRuntime) -> Result<(), Fail> {
     let tally = Tally::new();
-    assert_eq!(rt; close_after_threads(&rt, rt.alloc(), 0, 64, &tally)?, None);
-    assert_eq!(rt; tally.count.into_inner(), 0);
+    let closing = close_after_threads(&rt, rt.alloc(), 0, 64, &tally)?;
+    same(&rt, &closing, &None);
+    same(&rt, &tally.count.into_inner(), &0);
     Ok(())
 }
 
@@ -155,13 +158,11 @@ fn threads_draw_each_job_once_and_keep_the_least_place(rt: HostRuntime) -> Resul
     let least = (0..JOBS).filter_map(place_of).min();
     for _ in 0..20 {
         let tally = Tally::new();
-        assert_eq!(rt;
-            close_after_threads(&rt, rt.alloc(), JOBS, 64, &tally)?,
-            least
-        );
-        assert_eq!(rt; tally.count.into_inner(), JOBS);
-        assert_eq!(rt; tally.sum.into_inner(), JOBS * (JOBS - 1) / 2);
-        assert_eq!(rt; tally.wrong_looks.into_inner(), 0);
+        let closing = close_after_threads(&rt, rt.alloc(), JOBS, 64, &tally)?;
+        same(&rt, &closing, &least);
+        same(&rt, &tally.count.into_inner(), &JOBS);
+        same(&rt, &tally.sum.into_inner(), &(JOBS * (JOBS - 1) / 2));
+        same(&rt, &tally.wrong_looks.into_inner(), &0);
     }
     Ok(())
 }

@@ -2,6 +2,7 @@
 
 ghost use Rattle.std.specs.Prelude.{◌≡◌, ◌<◌, length, IfOk};
 
+use crate::same::same;
 use book_core::{Answer, Core, CoreFault, Event};
 use std::alloc::{AllocError, Global};
 use std::process::Abort;
@@ -29,51 +30,54 @@ fn two_passes_share_two_jobs(rt: HostRuntime) -> Result<(), Fail> {
         Answer::Ended,
         Answer::Ended,
     ];
-    assert_eq!(rt; answers.as_slice(), expected.as_slice());
-    assert_eq!(rt; core.next(), 4);
-    assert_eq!(rt; core.least(), Some(4));
-    assert_eq!(rt; core.drawn(0), [0].as_slice());
-    assert_eq!(rt; core.reported(1), [9].as_slice());
-    assert_eq!(rt; core.seen(0), Some(9));
-    assert_eq!(rt; core.seen(1), None);
-    assert_eq!(rt; core.ended(1), true);
+    same(&rt, &answers.as_slice(), &expected.as_slice());
+    same(&rt, &core.next(), &4);
+    same(&rt, &core.least(), &Some(4));
+    same(&rt, &core.drawn(0), &[0].as_slice());
+    same(&rt, &core.reported(1), &[9].as_slice());
+    same(&rt, &core.seen(0), &Some(9));
+    same(&rt, &core.seen(1), &None);
+    same(&rt, &core.ended(1), &true);
     Ok(())
 }
 
 #[test]
 fn an_ended_pass_may_not_claim(rt: HostRuntime) -> Result<(), Fail> {
     let mut core = Core::start(rt.alloc(), 2, 2)?;
-    assert_eq!(rt;
-        core.run(&[Event::Claim(0); 4]).err(),
-        Some((3, CoreFault::C2))
+    same(
+        &rt,
+        &core.run(&[Event::Claim(0); 4]).err(),
+        &Some((3, CoreFault::C2)),
     );
-    assert_eq!(rt; core.next(), 3);
-    assert_eq!(rt; core.drawn(0), [0, 1].as_slice());
+    same(&rt, &core.next(), &3);
+    same(&rt, &core.drawn(0), &[0, 1].as_slice());
     Ok(())
 }
 
 #[test]
 fn an_ended_pass_may_report_and_look(rt: HostRuntime) -> Result<(), Fail> {
     let mut core = Core::start(rt.alloc(), 0, 1)?;
-    assert_eq!(rt; core.step(Event::Claim(0))?, Answer::Ended);
-    assert_eq!(rt; core.next(), 1);
-    assert_eq!(rt; core.step(Event::Report(0, 5))?, Answer::Reported);
-    assert_eq!(rt; core.step(Event::Look(0))?, Answer::Least(Some(5)));
+    same(&rt, &core.step(Event::Claim(0))?, &Answer::Ended);
+    same(&rt, &core.next(), &1);
+    same(&rt, &core.step(Event::Report(0, 5))?, &Answer::Reported);
+    same(&rt, &core.step(Event::Look(0))?, &Answer::Least(Some(5)));
     Ok(())
 }
 
 #[test]
 fn no_pass_has_a_number_past_the_last(rt: HostRuntime) -> Result<(), Fail> {
     let mut core = Core::start(rt.alloc(), 2, 2)?;
-    assert_eq!(rt;
-        core.run(&[Event::Claim(2)]).err(),
-        Some((0, CoreFault::C1))
+    same(
+        &rt,
+        &core.run(&[Event::Claim(2)]).err(),
+        &Some((0, CoreFault::C1)),
     );
-    assert_eq!(rt;
-        core.step(Event::Report(2, 4_294_967_296)),
-        Err(CoreFault::C1)
+    same(
+        &rt,
+        &core.step(Event::Report(2, 4_294_967_296)),
+        &Err(CoreFault::C1),
     );
-    assert_eq!(rt; core.step(Event::Look(255)), Err(CoreFault::C1));
+    same(&rt, &core.step(Event::Look(255)), &Err(CoreFault::C1));
     Ok(())
 }
 
@@ -84,8 +88,8 @@ fn places_are_below_two_to_the_32(rt: HostRuntime) -> Result<(), Fail> {
         Event::Report(0, 4_294_967_296),
     ];
     let mut core = Core::start(rt.alloc(), 2, 2)?;
-    assert_eq!(rt; core.run(&events).err(), Some((1, CoreFault::C3)));
-    assert_eq!(rt; core.least(), Some(4_294_967_295));
+    same(&rt, &core.run(&events).err(), &Some((1, CoreFault::C3)));
+    same(&rt, &core.least(), &Some(4_294_967_295));
     Ok(())
 }
 
@@ -131,45 +135,102 @@ fn place(event: &Event) -> Option<u64> {
 
 /// The places that a pass reports, in their order.
 fn reported(alloc: Global, events: &[Event], pass: u8) -> Result<Vec<u64>, AllocError> {
-    events
-        .iter()
-        .filter_map(|event| match *event {
-            Event::Report(reporter, place) if reporter == pass => Some(place),
-            _ => None,
-        })
-        .collect(alloc)
+    let mut places = Vec::new(alloc);
+    for event in events {
+        match *event {
+            Event::Report(reporter, place) if reporter == pass => places.push(place)?,
+            _ => {}
+        }
+    }
+    Ok(places)
 }
 
 /// The passes that claim, in the order of their claims.
 fn claimants(alloc: Global, events: &[Event]) -> Result<Vec<u8>, AllocError> {
-    events
-        .iter()
-        .filter_map(|event| match *event {
-            Event::Claim(pass) => Some(pass),
-            _ => None,
-        })
-        .collect(alloc)
+    let mut passes = Vec::new(alloc);
+    for event in events {
+        match *event {
+            Event::Claim(pass) => passes.push(pass)?,
+            _ => {}
+        }
+    }
+    Ok(passes)
 }
 
 /// The numbers of a pass's claims among all claims, of those that find a job.
 fn drawn(alloc: Global, claimants: &[u8], pass: u8) -> Result<Vec<u64>, AllocError> {
     let mut jobs = Vec::new(alloc);
-    for (job, claimant) in (0..JOBS).zip(claimants) {
-        if *claimant == pass {
-            jobs.push(job)?;
+    for job in 0..claimants.len() {
+        let number = job as u64;
+        if number < JOBS && claimants[job] == pass {
+            jobs.push(number)?;
         }
     }
     Ok(jobs)
 }
 
+/// The least place that events report.
+fn least_of(events: &[Event]) -> Option<u64> {
+    events.iter().filter_map(place).min()
+}
+
+/// The events before the last look of a pass.
+fn before_last_look(events: &[Event], pass: u8) -> Option<&[Event]> {
+    let mut before = None;
+    for place in 0..events.len() {
+        if events[place] == Event::Look(pass) {
+            before = Some(&events[..place]);
+        }
+    }
+    before
+}
+
 /// The least place reported before the last look of a pass.
 fn seen(events: &[Event], pass: u8) -> Option<u64> {
-    let (i, _) = events
+    match before_last_look(events, pass) {
+        Some(before) => least_of(before),
+        None => None,
+    }
+}
+
+/// Whether a pass claims where no job is left.
+fn has_ended(claimants: &[u8], pass: u8) -> bool {
+    claimants
         .iter()
-        .enumerate()
-        .filter(|(_, event)| **event == Event::Look(pass))
-        .last()?;
-    events.iter().take(i).filter_map(place).min()
+        .skip(JOBS as usize)
+        .any(|claimant| *claimant == pass)
+}
+
+/// Compares what a core says of a pass with what its events and those that claim say by themselves.
+fn compare_pass(
+    rt: &impl Abort,
+    alloc: Global,
+    core: &Core,
+    events: &[Event],
+    claimants: &[u8],
+    pass: u8,
+) -> Result<(), Fail>
+    requires { pass < length core.now.passes }
+{
+    let drawn = drawn(alloc, claimants, pass)?;
+    same(rt, &core.drawn(pass), &drawn.as_slice());
+    let reported = reported(alloc, events, pass)?;
+    same(rt, &core.reported(pass), &reported.as_slice());
+    same(rt, &core.seen(pass), &seen(events, pass));
+    same(rt, &core.ended(pass), &has_ended(claimants, pass));
+    Ok(())
+}
+
+/// The numbers that all passes drew, from the least on.
+fn drawn_by_all(alloc: Global, core: &Core) -> Result<Vec<u64>, AllocError>
+    requires { length core.now.passes ≡ PASSES }
+{
+    let mut all = Vec::new(alloc);
+    for pass in 0..PASSES {
+        all.extend_from_slice(core.drawn(pass))?;
+    }
+    all.sort()?;
+    Ok(all)
 }
 
 /// Compares a core with what its events, none of which met a fault, say by themselves.
@@ -178,30 +239,15 @@ fn compare(rt: &impl Abort, alloc: Global, core: &Core, events: &[Event]) -> Res
 {
     let claimants = claimants(alloc, events)?;
     let claims = claimants.len() as u64;
-    assert_eq!(rt; core.next(), claims);
-    assert_eq!(rt; core.least(), events.iter().filter_map(place).min());
-    let mut all = Vec::new(alloc);
+    same(rt, &core.next(), &claims);
+    same(rt, &core.least(), &least_of(events));
     for pass in 0..PASSES {
-        assert_eq!(rt;
-            core.drawn(pass),
-            drawn(alloc, &claimants, pass)?.as_slice()
-        );
-        assert_eq!(rt;
-            core.reported(pass),
-            reported(alloc, events, pass)?.as_slice()
-        );
-        assert_eq!(rt; core.seen(pass), seen(events, pass));
-        let ended = claimants
-            .iter()
-            .skip(JOBS as usize)
-            .any(|claimant| *claimant == pass);
-        assert_eq!(rt; core.ended(pass), ended);
-        all.extend_from_slice(core.drawn(pass))?;
+        compare_pass(rt, alloc, core, events, &claimants, pass)?;
     }
     // The drawn lists together are the numbers below the smaller of the claims and the jobs.
-    all.sort()?;
+    let all = drawn_by_all(alloc, core)?;
     let numbers = (0..claims.min(JOBS)).collect::<Vec<u64>>(alloc)?;
-    assert_eq!(rt; all.as_slice(), numbers.as_slice());
+    same(rt, &all.as_slice(), &numbers.as_slice());
     Ok(())
 }
 
@@ -217,11 +263,11 @@ fn a_long_run_is_what_its_events_say(rt: HostRuntime) -> Result<(), Fail> {
         }
     }
     // Each pass has ended, so there was a claim for each job and one more for each pass.
-    assert_eq!(rt; core.next(), 705);
+    same(&rt, &core.next(), &705);
     compare(&rt, rt.alloc(), &core, &events)?;
     let mut again = Core::start(rt.alloc(), JOBS, PASSES)?;
     let answers = again.run(&events)?;
-    assert_eq!(rt; answers.len(), events.len());
+    same(&rt, &answers.len(), &events.len());
     compare(&rt, rt.alloc(), &again, &events)
 }
 
@@ -230,13 +276,13 @@ fn compare_cores(rt: &impl Abort, one: &Core, other: &Core)
     requires one { length one.now.passes ≡ 2 }
     requires other { length other.now.passes ≡ 2 }
 {
-    assert_eq!(rt; one.next(), other.next());
-    assert_eq!(rt; one.least(), other.least());
+    same(rt, &one.next(), &other.next());
+    same(rt, &one.least(), &other.least());
     for pass in 0..2 {
-        assert_eq!(rt; one.drawn(pass), other.drawn(pass));
-        assert_eq!(rt; one.reported(pass), other.reported(pass));
-        assert_eq!(rt; one.seen(pass), other.seen(pass));
-        assert_eq!(rt; one.ended(pass), other.ended(pass));
+        same(rt, &one.drawn(pass), &other.drawn(pass));
+        same(rt, &one.reported(pass), &other.reported(pass));
+        same(rt, &one.seen(pass), &other.seen(pass));
+        same(rt, &one.ended(pass), &other.ended(pass));
     }
 }
 
@@ -283,7 +329,7 @@ fn a_run_that_finds_no_memory_stands_before_that_event(rt: HostRuntime) -> Resul
     let answered = match core.run(&events) {
         Ok(answers) => answers.len() as u64,
         Err((i, fault)) => {
-            assert_eq!(rt; fault, CoreFault::Memory);
+            same(&rt, &fault, &CoreFault::Memory);
             i
         }
     };

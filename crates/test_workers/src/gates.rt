@@ -1,5 +1,6 @@
 //! What a gate is told before any worker starts.
 
+use crate::same::{same, same_for};
 use crate::workers::Good;
 use std::sync::atomic::{AtomicU64, Ordering};
 use std::test::Fail;
@@ -54,11 +55,12 @@ fn a_gate_is_told_the_number_of_jobs_once_and_before_they_come(
     for workers in [1, 2, 7] {
         let gate = Counter::new();
         let jobs = Good { count: 100 };
-        assert_eq!(rt; run_jobs(&rt, rt.alloc(), &jobs, workers, &gate)?, None);
-        assert_eq!(rt; gate.told.into_inner(), 1, "{workers} workers");
-        assert_eq!(rt; gate.jobs.into_inner(), 100);
-        assert_eq!(rt; gate.came.into_inner(), 100);
-        assert_eq!(rt; gate.came_before.into_inner(), 0);
+        let fault = run_jobs(&rt, rt.alloc(), &jobs, workers, &gate)?;
+        same(&rt, &fault, &None);
+        same_for(&rt, &gate.told.into_inner(), &1, &workers);
+        same(&rt, &gate.jobs.into_inner(), &100);
+        same(&rt, &gate.came.into_inner(), &100);
+        same(&rt, &gate.came_before.into_inner(), &0);
     }
     Ok(())
 }
@@ -68,9 +70,11 @@ fn a_gate_is_told_where_there_are_no_jobs(rt: HostRuntime) -> Result<(), Fail> {
     for workers in [1, 2, 7] {
         let gate = Counter::new();
         let none = Good { count: 0 };
-        assert_eq!(rt; run_jobs(&rt, rt.alloc(), &none, workers, &gate)?, None);
-        assert_eq!(rt; gate.told.into_inner(), 1, "{workers} workers");
-        assert_eq!(rt; (gate.jobs.into_inner(), gate.came.into_inner()), (0, 0));
+        let fault = run_jobs(&rt, rt.alloc(), &none, workers, &gate)?;
+        same(&rt, &fault, &None);
+        same_for(&rt, &gate.told.into_inner(), &1, &workers);
+        let counts = (gate.jobs.into_inner(), gate.came.into_inner());
+        same(&rt, &counts, &(0, 0));
     }
     Ok(())
 }

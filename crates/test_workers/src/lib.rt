@@ -13,6 +13,8 @@ mod meetings;
 #[cfg(test)]
 mod progress;
 #[cfg(test)]
+mod same;
+#[cfg(test)]
 mod stages;
 #[cfg(test)]
 mod workers;

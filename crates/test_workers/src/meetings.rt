@@ -1,5 +1,6 @@
 //! Two workers that read the clock at once: one of them tells how far the check has come.
 
+use crate::same::same;
 use crate::workers::Good;
 use pdb_progress::Progress;
 use std::fmt::Display;
@@ -83,7 +84,8 @@ fn of_two_workers_at_once_one_tells(rt: HostRuntime) -> Result<(), Fail> {
     let clock = Meetings::new();
     let gate = Progress::start(&clock, Vec::new(rt.alloc()))?;
     let jobs = Good { count: 2 * SECONDS };
-    assert_eq!(rt; run_jobs(&rt, rt.alloc(), &jobs, 2, &gate)?, None);
-    assert_eq!(rt; clock.told.load(Ordering::SeqCst), SECONDS);
+    let fault = run_jobs(&rt, rt.alloc(), &jobs, 2, &gate)?;
+    same(&rt, &fault, &None);
+    same(&rt, &clock.told.load(Ordering::SeqCst), &SECONDS);
     Ok(())
 }

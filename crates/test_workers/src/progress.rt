@@ -2,14 +2,38 @@
 
 ghost use Rattle.book_core.specs.Books.{AreWorkers};
 
+use crate::same::{same, same_for};
 use crate::stages::Stage;
 use crate::workers::Good;
 use pdb_progress::{Pace, Progress, Share, Watch, is_time};
-use std::alloc::Global;
+use std::alloc::{AllocGlobal, Global};
+use std::process::Abort;
 use std::sync::Wait;
 use std::test::Fail;
 use std::thread::Threads;
 use work_run::{Gate, run_jobs};
+
+/// A stage at the time 0.
+fn new_stage<R: AllocGlobal + Abort>(rt: &R) -> Stage {
+    Stage::new(rt.alloc()).expect(rt, "memory")
+}
+
+/// A gate that begins now, of a check of these files.
+fn gate_of<'a, 'n>(
+    rt: &impl Abort,
+    files: Vec<&'n str>,
+    stage: &'a Stage,
+) -> Progress<'a, 'n, Stage> {
+    Progress::start(stage, files).ok().expect(rt, "a clock")
+}
+
+/// These lines are told, and no more.
+fn are_told(rt: &impl Abort, stage: &Stage, lines: &[&str]) {
+    same(rt, &stage.told(), &(lines.len() as u64));
+    for place in 0..lines.len() {
+        same_for(rt, &stage.line(place), &lines[place], &place);
+    }
+}
 
 #[test]
 fn it_is_time_after_each_second(rt: HostRuntime) {
@@ -23,7 +47,7 @@ fn it_is_time_after_each_second(rt: HostRuntime) {
         (u64::MAX, u64::MAX, false),
     ];
     for (told, now, is) in cases {
-        assert_eq!(rt; is_time(told, now), is, "{told} {now}");
+        same_for(&rt, &is_time(told, now), &is, &(told, now));
     }
 }
 
@@ -42,18 +66,27 @@ fn shares_are_in_whole_percent(rt: HostRuntime) {
     ];
     for (begun, jobs, percent) in cases {
         let share = Share::of(begun, jobs);
-        assert_eq!(rt;
-            share.map(|share| share.percent()),
-            percent,
-            "{begun} of {jobs}"
+        same_for(
+            &rt,
+            &share.map(|share| share.percent()),
+            &percent,
+            &(begun, jobs),
         );
     }
 }
 
+/// The line at this place tells the share of 200 jobs that have begun.
+fn tells_percent<R: AllocGlobal + Abort>(rt: &R, stage: &Stage, place: usize, percent: u8) {
+    let line = format!(in rt.alloc();
+        "pdb_cli: {percent} percent of 200 blocks or lemmas begun"
+    ).expect(rt, "memory");
+    same(rt, &stage.line(place), &line.as_str());
+}
+
 #[test]
-fn shares_are_told_once_a_second_and_not_in_the_first(rt: HostRuntime) -> Result<(), Fail> {
-    let stage = Stage::new(rt.alloc())?;
-    let gate = Progress::start(&stage, Vec::new(rt.alloc()))?;
+fn shares_are_told_once_a_second_and_not_in_the_first(rt: HostRuntime) {
+    let stage = new_stage(&rt);
+    let gate = gate_of(&rt, Vec::new(rt.alloc()), &stage);
     gate.begins(200);
     // The clock at the first job, at the second and so on, and how many lines are then told.
     let steps = [
@@ -70,22 +103,18 @@ fn shares_are_told_once_a_second_and_not_in_the_first(rt: HostRuntime) -> Result
     for (millis, told) in steps {
         stage.set_clock(millis);
         gate.before(0);
-        assert_eq!(rt; stage.told(), told, "at {millis}");
+        same_for(&rt, &stage.told(), &told, &millis);
     }
     // The third, sixth, seventh and ninth of 200 jobs.
     for (place, percent) in [(0, 1), (1, 3), (2, 3), (3, 4)] {
-        let line = format!(in rt.alloc();
-            "pdb_cli: {percent} percent of 200 blocks or lemmas begun"
-        )?;
-        assert_eq!(rt; stage.line(place), line.as_str());
+        tells_percent(&rt, &stage, place, percent);
     }
-    Ok(())
 }
 
 #[test]
-fn each_check_has_a_share_of_its_own(rt: HostRuntime) -> Result<(), Fail> {
-    let stage = Stage::new(rt.alloc())?;
-    let gate = Progress::start(&stage, Vec::new(rt.alloc()))?;
+fn each_check_has_a_share_of_its_own(rt: HostRuntime) {
+    let stage = new_stage(&rt);
+    let gate = gate_of(&rt, Vec::new(rt.alloc()), &stage);
     gate.begins(3);
     for second in 1..=3 {
         stage.set_clock(1000 * second);
@@ -96,31 +125,20 @@ fn each_check_has_a_share_of_its_own(rt: HostRuntime) -> Result<(), Fail> {
     gate.before(0);
     stage.set_clock(4000);
     gate.before(1);
-    assert_eq!(rt; stage.told(), 4);
-    assert_eq!(rt;
-        stage.line(0),
-        "pdb_cli: 33 percent of 3 blocks or lemmas begun"
-    );
-    assert_eq!(rt;
-        stage.line(1),
-        "pdb_cli: 66 percent of 3 blocks or lemmas begun"
-    );
-    assert_eq!(rt;
-        stage.line(2),
-        "pdb_cli: 100 percent of 3 blocks or lemmas begun"
-    );
-    assert_eq!(rt;
-        stage.line(3),
-        "pdb_cli: 100 percent of 2 blocks or lemmas begun"
-    );
-    Ok(())
+    let lines = [
+        "pdb_cli: 33 percent of 3 blocks or lemmas begun",
+        "pdb_cli: 66 percent of 3 blocks or lemmas begun",
+        "pdb_cli: 100 percent of 3 blocks or lemmas begun",
+        "pdb_cli: 100 percent of 2 blocks or lemmas begun",
+    ];
+    are_told(&rt, &stage, &lines);
 }
 
 #[test]
 fn the_file_that_is_checked_is_named(rt: HostRuntime) -> Result<(), Fail> {
-    let stage = Stage::new(rt.alloc())?;
     let files = vec![in rt.alloc(); "t0", "t\n1"]?;
-    let gate = Progress::start(&stage, files)?;
+    let stage = new_stage(&rt);
+    let gate = gate_of(&rt, files, &stage);
     let cases = [
         (
             2,
@@ -138,7 +156,7 @@ fn the_file_that_is_checked_is_named(rt: HostRuntime) -> Result<(), Fail> {
         gate.begins(*blocks);
         stage.set_clock(*millis);
         gate.before(0);
-        assert_eq!(rt; stage.line(place), *line);
+        same(&rt, &stage.line(place), line);
     }
     Ok(())
 }
@@ -156,18 +174,19 @@ fn paces_are_in_whole_boards_a_second(rt: HostRuntime) {
     ];
     for (boards, millis, rate) in cases {
         let pace = Pace::of(Some(0), 93, boards, millis);
-        assert_eq!(rt;
-            pace.map(|pace| pace.boards_a_second()),
-            rate,
-            "{boards} in {millis}"
+        same_for(
+            &rt,
+            &pace.map(|pace| pace.boards_a_second()),
+            &rate,
+            &(boards, millis),
         );
     }
 }
 
 #[test]
-fn a_search_tells_its_pace_and_no_share(rt: HostRuntime) -> Result<(), Fail> {
-    let stage = Stage::new(rt.alloc())?;
-    let gate = Progress::start(&stage, Vec::new(rt.alloc()))?;
+fn a_search_tells_its_pace_and_no_share(rt: HostRuntime) {
+    let stage = new_stage(&rt);
+    let gate = gate_of(&rt, Vec::new(rt.alloc()), &stage);
     gate.begins(3);
     gate.asks(0);
     gate.searches(40);
@@ -182,28 +201,23 @@ fn a_search_tells_its_pace_and_no_share(rt: HostRuntime) -> Result<(), Fail> {
     for (millis, boards, told) in steps {
         stage.set_clock(millis);
         gate.expanded(boards);
-        assert_eq!(rt; stage.told(), told, "at {millis}");
+        same_for(&rt, &stage.told(), &told, &millis);
     }
     // The jobs of a search are no blocks or lemmas.
     stage.set_clock(9000);
     gate.begins(7);
     gate.before(0);
-    assert_eq!(rt; stage.told(), 2);
-    assert_eq!(rt;
-        stage.line(0),
-        "pdb_cli: claim 0, below 40: 1000 boards, 1000 a second"
-    );
-    assert_eq!(rt;
-        stage.line(1),
-        "pdb_cli: claim 0, below 40: 3000 boards, 1200 a second"
-    );
-    Ok(())
+    let lines = [
+        "pdb_cli: claim 0, below 40: 1000 boards, 1000 a second",
+        "pdb_cli: claim 0, below 40: 3000 boards, 1200 a second",
+    ];
+    are_told(&rt, &stage, &lines);
 }
 
 #[test]
-fn each_bound_of_each_claim_has_a_pace_of_its_own(rt: HostRuntime) -> Result<(), Fail> {
-    let stage = Stage::new(rt.alloc())?;
-    let gate = Progress::start(&stage, Vec::new(rt.alloc()))?;
+fn each_bound_of_each_claim_has_a_pace_of_its_own(rt: HostRuntime) {
+    let stage = new_stage(&rt);
+    let gate = gate_of(&rt, Vec::new(rt.alloc()), &stage);
     gate.asks(2);
     gate.searches(40);
     gate.expanded(600);
@@ -217,25 +231,20 @@ fn each_bound_of_each_claim_has_a_pace_of_its_own(rt: HostRuntime) -> Result<(),
     gate.searches(255);
     stage.set_clock(5000);
     gate.expanded(4_100_000);
-    assert_eq!(rt; stage.told(), 2);
-    assert_eq!(rt;
-        stage.line(0),
-        "pdb_cli: claim 2, below 42: 1201 boards, 600 a second"
-    );
-    assert_eq!(rt;
-        stage.line(1),
-        "pdb_cli: claim 3, below 255: 4100000 boards, 2050000 a second"
-    );
-    Ok(())
+    let lines = [
+        "pdb_cli: claim 2, below 42: 1201 boards, 600 a second",
+        "pdb_cli: claim 3, below 255: 4100000 boards, 2050000 a second",
+    ];
+    are_told(&rt, &stage, &lines);
 }
 
 #[test]
 fn a_search_without_a_claim_names_none_and_shares_are_told_behind_it(
     rt: HostRuntime,
 ) -> Result<(), Fail> {
-    let stage = Stage::new(rt.alloc())?;
     let files = vec![in rt.alloc(); "t0", "made"]?;
-    let gate = Progress::start(&stage, files)?;
+    let stage = new_stage(&rt);
+    let gate = gate_of(&rt, files, &stage);
     gate.begins(3);
     gate.searches(21);
     stage.set_clock(2000);
@@ -243,22 +252,19 @@ fn a_search_without_a_claim_names_none_and_shares_are_told_behind_it(
     gate.begins(2);
     stage.set_clock(3000);
     gate.before(0);
-    assert_eq!(rt; stage.told(), 2);
-    assert_eq!(rt;
-        stage.line(0),
-        "pdb_cli: below 21: 16384 boards, 8192 a second"
-    );
-    assert_eq!(rt;
-        stage.line(1),
-        "pdb_cli: made, 2 of 2: 50 percent of 2 blocks or lemmas begun"
-    );
+    let lines = [
+        "pdb_cli: below 21: 16384 boards, 8192 a second",
+        "pdb_cli: made, 2 of 2: 50 percent of 2 blocks or lemmas begun",
+    ];
+    are_told(&rt, &stage, &lines);
     Ok(())
 }
 
 #[test]
 fn a_table_that_is_made_is_told_and_then_its_check(rt: HostRuntime) -> Result<(), Fail> {
-    let stage = Stage::new(rt.alloc())?;
-    let gate = Progress::start(&stage, vec![in rt.alloc(); "m\nade"]?)?;
+    let files = vec![in rt.alloc(); "m\nade"]?;
+    let stage = new_stage(&rt);
+    let gate = gate_of(&rt, files, &stage);
     stage.set_clock(999);
     gate.found(1, 2, 300);
     stage.set_clock(1000);
@@ -274,22 +280,19 @@ fn a_table_that_is_made_is_told_and_then_its_check(rt: HostRuntime) -> Result<()
     gate.begins(4);
     stage.set_clock(4000);
     gate.before(0);
-    assert_eq!(rt; stage.told(), 4);
     let lines = [
         "pdb_cli: m?ade: 1 percent of 300 counts found, those up to 2 moves",
         "pdb_cli: m?ade: 100 percent of 300 counts found, those up to 4 moves",
         "pdb_cli: m?ade: 40 percent of 200 entries filled in",
         "pdb_cli: m?ade, 1 of 1: 25 percent of 4 blocks or lemmas begun",
     ];
-    for (place, line) in lines.iter().enumerate() {
-        assert_eq!(rt; stage.line(place), *line);
-    }
+    are_told(&rt, &stage, &lines);
     Ok(())
 }
 
 #[test]
-fn a_table_without_a_name_is_told(rt: HostRuntime) -> Result<(), Fail> {
-    let mut stage = Stage::new(rt.alloc())?;
+fn a_table_without_a_name_is_told(rt: HostRuntime) {
+    let mut stage = new_stage(&rt);
     stage.value = Some(b"1");
     let gate = Watch::asked_for(&stage, Vec::new(rt.alloc()));
     stage.set_clock(1000);
@@ -299,22 +302,20 @@ fn a_table_without_a_name_is_told(rt: HostRuntime) -> Result<(), Fail> {
     // More than there are aren't told.
     stage.set_clock(3000);
     gate.filled(3, 4);
-    assert_eq!(rt; stage.told(), 2);
-    assert_eq!(rt;
-        stage.line(0),
-        "pdb_cli: 50 percent of 2 counts found, those up to 253 moves"
-    );
-    assert_eq!(rt; stage.line(1), "pdb_cli: 75 percent of 4 entries filled in");
-    Ok(())
+    let lines = [
+        "pdb_cli: 50 percent of 2 counts found, those up to 253 moves",
+        "pdb_cli: 75 percent of 4 entries filled in",
+    ];
+    are_told(&rt, &stage, &lines);
 }
 
 #[test]
-fn the_bound_is_kept_below_which_the_last_searches_ended(rt: HostRuntime) -> Result<(), Fail> {
+fn the_bound_is_kept_below_which_the_last_searches_ended(rt: HostRuntime) {
     for value in [None, Some(b"1".as_slice())] {
-        let mut stage = Stage::new(rt.alloc())?;
+        let mut stage = new_stage(&rt);
         stage.value = value;
         let gate = Watch::asked_for(&stage, Vec::new(rt.alloc()));
-        assert_eq!(rt; gate.ended_below(), None);
+        same(&rt, &gate.ended_below(), &None);
         // The bound of each search, and that of the one that has ended before it.
         let searches = [
             (5, None),
@@ -328,35 +329,34 @@ fn the_bound_is_kept_below_which_the_last_searches_ended(rt: HostRuntime) -> Res
         for (bound, ended) in searches {
             gate.searches(bound);
             gate.expanded(1);
-            assert_eq!(rt; gate.ended_below(), ended, "{bound}");
+            same_for(&rt, &gate.ended_below(), &ended, &bound);
         }
         gate.asks(0);
-        assert_eq!(rt; gate.ended_below(), None);
+        same(&rt, &gate.ended_below(), &None);
         gate.searches(255);
-        assert_eq!(rt; gate.ended_below(), None);
+        same(&rt, &gate.ended_below(), &None);
     }
-    Ok(())
 }
 
 #[test]
-fn the_gate_of_the_program_tells_of_searches(rt: HostRuntime) -> Result<(), Fail> {
+fn the_gate_of_the_program_tells_of_searches(rt: HostRuntime) {
     for (value, told) in [(Some(b"1".as_slice()), 1), (None, 0)] {
-        let mut stage = Stage::new(rt.alloc())?;
+        let mut stage = new_stage(&rt);
         stage.value = value;
         let gate = Watch::asked_for(&stage, Vec::new(rt.alloc()));
         gate.asks(1);
         gate.searches(20);
         stage.set_clock(2000);
         gate.expanded(9);
-        assert_eq!(rt; stage.told(), told, "{value:?}");
+        same_for(&rt, &stage.told(), &told, &value);
         if told == 1 {
-            assert_eq!(rt;
-                stage.line(0),
-                "pdb_cli: claim 1, below 20: 9 boards, 4 a second"
+            same(
+                &rt,
+                &stage.line(0),
+                &"pdb_cli: claim 1, below 20: 9 boards, 4 a second",
             );
         }
     }
-    Ok(())
 }
 
 #[test]
@@ -371,13 +371,14 @@ fn the_environment_asks_by_the_value_1_alone(rt: HostRuntime) -> Result<(), Fail
         (Some(b"yes"), 0),
     ];
     for (value, told) in cases {
-        let mut stage = Stage::new(rt.alloc())?;
+        let mut stage = new_stage(&rt);
         stage.value = value;
         let gate = Watch::asked_for(&stage, Vec::new(rt.alloc()));
         stage.set_clock(1000);
         let jobs = Good { count: 1 };
-        assert_eq!(rt; run_jobs(&rt, rt.alloc(), &jobs, 1, &gate)?, None);
-        assert_eq!(rt; stage.told(), told, "{value:?}");
+        let fault = run_jobs(&rt, rt.alloc(), &jobs, 1, &gate)?;
+        same(&rt, &fault, &None);
+        same_for(&rt, &stage.told(), &told, &value);
     }
     Ok(())
 }
@@ -414,25 +415,27 @@ fn workers_together_tell_once(rt: HostRuntime) -> Result<(), Fail> {
 #[test]
 fn a_clock_or_a_standard_error_that_fails_stops_nothing(rt: HostRuntime) -> Result<(), Fail> {
     let jobs = Good { count: 3 };
-    let mut closed = Stage::new(rt.alloc())?;
+    let mut closed = new_stage(&rt);
     closed.is_open = false;
-    let gate = Progress::start(&closed, Vec::new(rt.alloc()))?;
+    let gate = gate_of(&rt, Vec::new(rt.alloc()), &closed);
     closed.set_clock(1000);
-    assert_eq!(rt; run_jobs(&rt, rt.alloc(), &jobs, 1, &gate)?, None);
-    assert_eq!(rt; closed.told(), 1);
-    let mut timeless = Stage::new(rt.alloc())?;
+    let fault = run_jobs(&rt, rt.alloc(), &jobs, 1, &gate)?;
+    same(&rt, &fault, &None);
+    same(&rt, &closed.told(), &1);
+    let mut timeless = new_stage(&rt);
     timeless.value = Some(b"1");
     timeless.has_clock = false;
     let gate = Watch::asked_for(&timeless, Vec::new(rt.alloc()));
-    assert_eq!(rt; run_jobs(&rt, rt.alloc(), &jobs, 1, &gate)?, None);
-    assert_eq!(rt; timeless.told(), 0);
+    let fault = run_jobs(&rt, rt.alloc(), &jobs, 1, &gate)?;
+    same(&rt, &fault, &None);
+    same(&rt, &timeless.told(), &0);
     Ok(())
 }
 
 #[test]
-fn large_numbers_are_told_whole(rt: HostRuntime) -> Result<(), Fail> {
-    let stage = Stage::new(rt.alloc())?;
-    let gate = Progress::start(&stage, Vec::new(rt.alloc()))?;
+fn large_numbers_are_told_whole(rt: HostRuntime) {
+    let stage = new_stage(&rt);
+    let gate = gate_of(&rt, Vec::new(rt.alloc()), &stage);
     gate.begins(4_294_967_296);
     stage.set_clock(5_000_000_000);
     gate.before(0);
@@ -440,14 +443,9 @@ fn large_numbers_are_told_whole(rt: HostRuntime) -> Result<(), Fail> {
     gate.searches(40);
     stage.set_clock(7_000_000_000);
     gate.expanded(9_000_000_000_000);
-    assert_eq!(rt; stage.told(), 2);
-    assert_eq!(rt;
-        stage.line(0),
-        "pdb_cli: 0 percent of 4294967296 blocks or lemmas begun"
-    );
-    assert_eq!(rt;
-        stage.line(1),
-        "pdb_cli: claim 4294967296, below 40: 9000000000000 boards, 4500000 a second"
-    );
-    Ok(())
+    let lines = [
+        "pdb_cli: 0 percent of 4294967296 blocks or lemmas begun",
+        "pdb_cli: claim 4294967296, below 40: 9000000000000 boards, 4500000 a second",
+    ];
+    are_told(&rt, &stage, &lines);
 }

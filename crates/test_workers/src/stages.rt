@@ -55,8 +55,11 @@ impl Stage {
 
     /// A line that was told, from 0, or an empty one where it wasn't.
     pub(crate) fn line(&self, place: usize) -> &str {
-        match self.lines.get(place).and_then(|line| line.get()) {
-            Some(line) => line.as_str(),
+        let Some(line) = self.lines.get(place) else {
+            return "";
+        };
+        match line.get() {
+            Some(text) => text.as_str(),
             None => "",
         }
     }

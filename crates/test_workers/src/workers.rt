@@ -2,6 +2,7 @@
 
 ghost use Rattle.std.specs.Prelude.{◌≡◌, ℕ, ◌+◌, ◌*◌, ◌<◌, ◌≤◌, ◌^◌};
 
+use crate::same::same;
 use book_live::Book;
 use std::alloc::{AllocError, Global};
 use std::sync::atomic::{AtomicU64, Ordering};
@@ -199,10 +200,8 @@ fn the_least_of_two_bad_places_is_found_by_any_number_of_workers(
 ) -> Result<(), Fail> {
     let jobs = five_tens();
     for workers in [1, 2, 7, 64] {
-        assert_eq!(rt;
-            run_jobs(&rt, rt.alloc(), &jobs, workers, &OpenGate)?,
-            Some(12)
-        );
+        let fault = run_jobs(&rt, rt.alloc(), &jobs, workers, &OpenGate)?;
+        same(&rt, &fault, &Some(12));
     }
     Ok(())
 }
@@ -217,14 +216,15 @@ fn want_of_memory_is_answered_and_a_second_run_finds_the_fault(
         Ok(fault) => fault,
         Err(_) => run_jobs(&rt, rt.alloc(), &jobs, 7, &OpenGate)?,
     };
-    assert_eq!(rt; fault, Some(12));
+    same(&rt, &fault, &Some(12));
     Ok(())
 }
 
 #[test]
 fn no_jobs_have_no_fault(rt: HostRuntime) -> Result<(), Fail> {
     let none = Good { count: 0 };
-    assert_eq!(rt; run_jobs(&rt, rt.alloc(), &none, 3, &OpenGate)?, None);
+    let fault = run_jobs(&rt, rt.alloc(), &none, 3, &OpenGate)?;
+    same(&rt, &fault, &None);
     Ok(())
 }
 
@@ -232,7 +232,8 @@ fn no_jobs_have_no_fault(rt: HostRuntime) -> Result<(), Fail> {
 fn two_workers_run_two_jobs_side_by_side(rt: HostRuntime) -> Result<(), Fail> {
     let gate = HoldingGate::new(&[0], &[1]);
     let jobs = Good { count: 2 };
-    assert_eq!(rt; run_jobs(&rt, rt.alloc(), &jobs, 2, &gate)?, None);
+    let fault = run_jobs(&rt, rt.alloc(), &jobs, 2, &gate)?;
+    same(&rt, &fault, &None);
     assert!(rt; gate.saw_all());
     Ok(())
 }
@@ -249,7 +250,8 @@ fn a_worker_that_is_held_leaves_all_other_jobs_to_the_other(rt: HostRuntime) -> 
         let held = [held];
         let gate = HoldingGate::new(&held, &others);
         let jobs = Good { count: 4 };
-        assert_eq!(rt; run_jobs(&rt, rt.alloc(), &jobs, 2, &gate)?, None);
+        let fault = run_jobs(&rt, rt.alloc(), &jobs, 2, &gate)?;
+        same(&rt, &fault, &None);
         assert!(rt; gate.saw_all(), "holding job {}", held[0]);
     }
     Ok(())
@@ -264,7 +266,8 @@ fn a_job_that_is_held_may_have_the_least_bad_place(rt: HostRuntime) -> Result<()
         least: 3,
         other: 10,
     };
-    assert_eq!(rt; run_jobs(&rt, rt.alloc(), &jobs, 2, &gate)?, Some(3));
+    let fault = run_jobs(&rt, rt.alloc(), &jobs, 2, &gate)?;
+    same(&rt, &fault, &Some(3));
     assert!(rt; gate.saw_all());
     Ok(())
 }
@@ -278,8 +281,10 @@ fn jobs_above_the_seen_place_are_not_entered(rt: HostRuntime) -> Result<(), Fail
         least: 0,
         other: 0,
     };
-    assert_eq!(rt; run_jobs(&rt, rt.alloc(), &jobs, 1, &gate)?, Some(0));
-    assert_eq!(rt; gate.notes(rt.alloc())?.as_slice(), [0].as_slice());
+    let fault = run_jobs(&rt, rt.alloc(), &jobs, 1, &gate)?;
+    same(&rt, &fault, &Some(0));
+    let notes = gate.notes(rt.alloc())?;
+    same(&rt, &notes.as_slice(), &[0].as_slice());
     let gate = Log::new(rt.alloc(), 8)?;
     let jobs = Spoilt {
         jobs: 6,
@@ -287,8 +292,10 @@ fn jobs_above_the_seen_place_are_not_entered(rt: HostRuntime) -> Result<(), Fail
         least: 30,
         other: 50,
     };
-    assert_eq!(rt; run_jobs(&rt, rt.alloc(), &jobs, 1, &gate)?, Some(30));
-    assert_eq!(rt; gate.notes(rt.alloc())?.as_slice(), [0, 1, 2, 3].as_slice());
+    let fault = run_jobs(&rt, rt.alloc(), &jobs, 1, &gate)?;
+    same(&rt, &fault, &Some(30));
+    let notes = gate.notes(rt.alloc())?;
+    same(&rt, &notes.as_slice(), &[0, 1, 2, 3].as_slice());
     Ok(())
 }
 
@@ -300,7 +307,8 @@ fn as_many_workers_as_asked_for_run_side_by_side(rt: HostRuntime) -> Result<(), 
         let jobs = Good {
             count: u64::from(workers),
         };
-        assert_eq!(rt; run_jobs(&rt, rt.alloc(), &jobs, workers, &gate)?, None);
+        let fault = run_jobs(&rt, rt.alloc(), &jobs, workers, &gate)?;
+        same(&rt, &fault, &None);
         assert!(rt; gate.saw_all(), "{workers} workers");
     }
     Ok(())
@@ -310,8 +318,10 @@ fn as_many_workers_as_asked_for_run_side_by_side(rt: HostRuntime) -> Result<(), 
 fn each_job_is_entered_once_and_then_run_once(rt: HostRuntime) -> Result<(), Fail> {
     for workers in [1, 7] {
         let diary = Diary::new(rt.alloc())?;
-        assert_eq!(rt; run_jobs(&rt, rt.alloc(), &diary, workers, &diary)?, None);
-        assert_eq!(rt; diary.calls.load(Ordering::SeqCst), 1 + 2 * NOTED_JOBS);
+        let fault = run_jobs(&rt, rt.alloc(), &diary, workers, &diary)?;
+        same(&rt, &fault, &None);
+        let calls = diary.calls.load(Ordering::SeqCst);
+        same(&rt, &calls, &(1 + 2 * NOTED_JOBS));
         for (entered, run) in diary.entered.iter().zip(&diary.run) {
             let entered = entered.load(Ordering::SeqCst);
             let run = run.load(Ordering::SeqCst);
@@ -330,6 +340,6 @@ fn one_worker_works_through_its_pass(rt: HostRuntime) -> Result<(), Fail> {
     let pass = work(&five_tens(), &book, passes.remove(0), &OpenGate);
     assert!(rt; pass.ended());
     let passes = vec![in rt.alloc(); pass]?;
-    assert_eq!(rt; book.close(passes), Some(12));
+    same(&rt, &book.close(passes), &Some(12));
     Ok(())
 }
