@@ -1,7 +1,6 @@
-use Rattle.std.proofs.Common.{◌≡◌, Err, append-nil, rules, sym}
+use Rattle.std.proofs.Common.{append-nil, rules, sym}
 use Rattle.puz_board.specs.BoardTexts.{Spells}
 use Rattle.pdb_run.specs.Answers.{all_bytes}
-use Rattle.pdb_verdict.specs.declared.verdicts.Fault.{Fault}
 use Rattle.pdb_keep.proofs.MakerLemmas.{made_moves}
 use Rattle.pdb_keep.proofs.solve.answer_search.Goals as goal
 
@@ -26,8 +25,7 @@ returns-in-Ok g c =
 pub returns-in-Err : goal.returns-in-Err
 returns-in-Err g c =
     let asked = c.args.search.now in
-    let same : c.digested_beside-digested.result.1 ≡ Err (Fault.Board c.in-Err.refused) = search (rules, c.digested_beside-digested.ensures.answer) in
     let why = rw (c.as_slice.ensures.value, c.in-Err.is) at c.read.ensures.exact in
-    let lines = rw (append-nil, c.as_slice-tables.ensures.value) at c.digested_beside-digested.ensures.digested in
+    let lines = rw c.as_slice-in-Err.ensures.value at c.refused_beside-digested.ensures.digested in
     c.answer_of-in-Err.ensures asked.fold asked.budget asked.board.items asked.sets.items (all_bytes asked.tables.items) lines
-    (rw same (sym why))
+    (rw c.refused_beside-digested.ensures.outcome (sym why))
