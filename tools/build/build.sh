@@ -179,7 +179,7 @@ build() {
     { : >&2; } 2>/dev/null || exec 2>/dev/null
     [[ $(make --version 2>/dev/null) == 'GNU Make'* ]] || say 'GNU make is not on the PATH: install the package make' || return
     { : >"$log"; } 2>/dev/null || say "$log cannot be written" || return
-    say "proving and building the program, some minutes the first time; the log is $log"
+    say "proving and building the program, half an hour the first time; the log is $log"
     for most in '' 1; do
         [ -z "$most" ] || say "the crates are not proved side by side, and $log says why: one after the other now"
         copy=$(mktemp -d) || break

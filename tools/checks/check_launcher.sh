@@ -68,12 +68,9 @@ start_beside() { (become) <"$input" >"$at/stdout${1-}" 2>"$at/stderr${1-}" & goi
 finish() { status=0 && { wait "$going" || status=$?; }; }
 # Says that the check $1 passed if the words $2 succeed, and otherwise that it failed and what was written.
 check() {
-    if eval "$2"; then
-        passed=$((passed + 1)) && echo "ok      ${1//_/ }"
-    else
-        failed=$((failed + 1)) && echo "FAILED  ${1//_/ }: $2; status $status, calls $(xargs <"$at/orders/calls"), and written was:"
-        head -c 1000 "$at/stdout" "$at/stderr"
-    fi
+    [ -n "$2" ] && eval "$2" && passed=$((passed + 1)) && echo "ok      ${1//_/ }" && return
+    failed=$((failed + 1)) && echo "FAILED  ${1//_/ }: $2; status $status, calls $(xargs <"$at/orders/calls"), and written was:"
+    head -c 1000 "$at/stdout" "$at/stderr"
 }
 calls() { grep -c "$1" "$at/orders/calls"; }
 said() { grep -q "$1" "$at/stderr"; }
@@ -145,7 +142,7 @@ find_away | take_away find | refused "can be read and compared"
 rt_away | path=$work/bin | refused "is not on the PATH"
 folder_unreadable | chmod 0 crates/low/src | refused "can be read and compared"'
 # These come on top of an edit.
-rows+=$(sed 's/^/\n/; s/|/| low LOW;/' - <(
+rows+=$'\n'$(sed 's/|/| low LOW;/' - <(
     printf 'no_%s | take_away %s | refused "can be read and compared"\n' {find,sort,xargs,sha256sum}{,}
     printf 'no_%s | take_away %s | refused "cannot be"\n' {flock,mkdir}{,}
     printf 'no_%s | take_away %s | refused "not built"\n' {cp,mv,readlink,mktemp}{,}
@@ -190,13 +187,9 @@ for_rows try_built "$rows"
 built failed 'low LOW; order fail_at_last; start; low low' && start
 check 'what was built before a failed edit that is taken back is run' 'is_run && [ "$(calls "low begins")" = 1 ]'
 built quick 'stale=0'
-for i in {10..19}; do
-    { low "$i" && start && is_run && low "x$i" && low "$i" && start && is_run; } || stale=1
-done
+for i in {10..19}; do { low "$i" && start && is_run && low "x$i" && low "$i" && start && is_run; } || stale=1; done
 check 'edits in quick turn are each seen' '[ "$stale.$(calls "low begins")" = 0.10 ]'
-cp "$kit/bin/"{rt,find} && for i in {20..27}; do
-    { low "$((i - 1))" && start && low "$i" && start && is_run; } || stale=1
-done
+cp "$kit/bin/"{rt,find} && for i in {20..27}; do { low "$((i - 1))" && start && low "$i" && start && is_run; } || stale=1; done
 check 'so are two within a second, where files have their times in seconds' '[ "$stale.$(calls "low begins")" = 0.18 ]'
 words=(--version) && start && check 'the version has a digest' 'grep -Eqx "sources and kit [0-9a-f]{64}" "$at/stdout"'
 
