@@ -1,7 +1,6 @@
 //! Bundles of table files and a set text.
 
 ghost use Rattle.std.specs.Prelude.{Bool, List, true, IfErr, IfOk, MatchResult};
-ghost use Rattle.tab_rule.specs.ExactTables.{IsExactFile};
 ghost use Rattle.tab_rule.specs.TableFaults.{IsTableCauseOf};
 ghost use Rattle.set_sum.specs.declared.parts.Part.TheVariants.{Folded};
 ghost use Rattle.byte_io.specs.Shelf.{Bytes};
@@ -13,8 +12,8 @@ use crate::verdicts::Fault;
 use set_sum::{Bundle, Part};
 use std::sync::Wait;
 use std::thread::Threads;
-use tab_check::check_table;
-use tab_rule::{CheckedTable, FoldedTable, TableFault, fold};
+use tab_check::check_table_by;
+use tab_rule::{FoldedTable, TableFault, fold};
 use work_run::{Gate, Workers};
 
 /// What makes a bundle of tables: a set text, and whether each table is folded once it is checked.
@@ -83,7 +82,7 @@ fn part_of<'a, H: Threads + Wait, G: Gate + Sync>(
         let folded = fold_file(file, workers)?;
         return Ok(Part::Folded(folded));
     }
-    let table = check_file(file, workers)?;
+    let table = check_table_by(file, workers)?;
     Ok(Part::Full(table.with_slots(workers.alloc)))
 }
 
@@ -95,22 +94,11 @@ pub(crate) fn fold_file<H: Threads + Wait, G: Gate + Sync>(
     ensures ok { IfOk result (λ folded. IsPartOf true file.now (Folded folded)) }
     ensures err { IfErr result (λ fault. IsTableCauseOf fault file.now) }
 {
-    let table = check_file(file, workers)?;
+    let table = check_table_by(file, workers)?;
     match fold(workers.alloc, &table) {
         Ok(folded) => Ok(folded),
         Err(_) => Err(TableFault::Memory),
     }
-}
-
-/// The table of a file.
-pub(crate) fn check_file<'a, H: Threads + Wait, G: Gate + Sync>(
-    file: &'a [u8],
-    workers: &Workers<'_, H, G>,
-) -> Result<CheckedTable<'a>, TableFault>
-    ensures ok { IfOk result (λ table. IsExactFile table file.now) }
-    ensures err { IfErr result (λ fault. IsTableCauseOf fault file.now) }
-{
-    check_table(workers.rt, workers.alloc, file, workers.count, workers.gate)
 }
 
 /// Why there aren't the parts for all files, where there isn't that for the file with this number.

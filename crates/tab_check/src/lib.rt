@@ -9,4 +9,4 @@ pub use tab_rule::{
     BLOCK_RANKS, Census, CheckedTable, Count, FoldedTable, TableFault, TableRefusal, block_count,
     fold,
 };
-pub use tables::check_table;
+pub use tables::{check_table, check_table_by};

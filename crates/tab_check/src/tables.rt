@@ -20,7 +20,7 @@ use std::thread::Threads;
 use tab_file::{HeadFault, TableView, view};
 use tab_rule::{CheckedTable, TableFault, TableRefusal};
 use tab_runs::RowTable;
-use work_run::{Gate, run_jobs};
+use work_run::{Gate, Workers, run_jobs_by};
 
 /// Below so many entries a table is checked sooner than its rows are made.
 const FEW_ENTRIES: usize = 1 << 16;
@@ -51,13 +51,24 @@ pub fn check_table<'a, R: Threads + Wait, G: Gate + Sync>(
         → IsLeastBadEntry table number
         → (result ≡ Err (Refused (T7 number))) ⊎ (result ≡ Err Memory) }
 {
+    check_table_by(file, &Workers::new(rt, alloc, workers, gate))
+}
+
+/// As `check_table`, by these workers. What else that promises follows from these clauses.
+pub fn check_table_by<'a, R: Threads + Wait, G: Gate + Sync>(
+    file: &'a [u8],
+    workers: &Workers<'_, R, G>,
+) -> Result<CheckedTable<'a>, TableFault>
+    ensures ok { IfOk result (λ table. IsExactFile table file.now) }
+    ensures fault { IfErr result (λ fault. IsTableCauseOf fault file.now) }
+{
     let view = match view(file) {
         Ok(view) => view,
         Err(fault) => return Err(TableFault::Refused(TableRefusal::Head(fault))),
     };
-    let rows = rows_of(alloc, &view);
+    let rows = rows_of(workers.alloc, &view);
     let blocks = TableBlocks { view, rows };
-    match run_jobs(rt, alloc, &blocks, workers, gate) {
+    match run_jobs_by(&blocks, workers) {
         Ok(None) => Ok(CheckedTable::of_view(blocks.view)),
         Ok(Some(number)) => Err(TableFault::Refused(TableRefusal::T7(number))),
         Err(_) => Err(TableFault::Memory),
