@@ -28,7 +28,7 @@ const ANSWERS_LIMIT: u64 = 1 << 26;
 
 /// Parts whose board text and answer lines are read, as a command: it answers a board text that is refused.
 #[derive(Clone, Copy)]
-struct Reading<'c, 'n>(&'c JoinParts<'n>);
+struct Reading<'c, 'n>(&'c JoinParts<Option<&'n str>, &'n str>);
 
 impl Command for Reading<'_, '_> {
     ghost plan = { λ command. reading_plan (parts_shown command.0.now) };
@@ -66,21 +66,31 @@ fn an_answers_text<'a>(name: &'a str) -> Input<'a>
     }
 }
 
-/// The board text and the files of answer lines, which were read in this order.
-fn files_read(inputs: Vec<Vec<u8>>) -> (Vec<u8>, Vec<Vec<u8>>)
+/// Parts with the bytes of their inputs, which were read in their order.
+fn with_bytes(
+    asked: &JoinParts<Option<&str>, &str>,
+    inputs: Vec<Vec<u8>>,
+) -> JoinParts<Vec<u8>, Vec<u8>>
     requires { 1 ≤ length inputs.items }
-    ensures { all_bytes inputs.items ≡ result.0.items ∷ all_bytes result.1.items }
+    ensures bound { result.bound ≡ asked.now.bound }
+    ensures count { result.count ≡ asked.now.count }
+    ensures inputs { all_bytes inputs.items ≡ result.board.items ∷ all_bytes result.answers.items }
 {
     let mut answers = inputs;
-    (answers.remove(0), answers)
+    JoinParts {
+        board: answers.remove(0),
+        bound: asked.bound,
+        count: asked.count,
+        answers,
+    }
 }
 
 /// A whole run of `parts`, without threads: it returns where its shelf, its reader and its writers do. Once its answer is written,
 /// it tells on the errors of lines that it skipped.
 #[inline(never)] // so that the stack has the values of one command alone
-pub fn run_parts<I: Io, E: Write>(
+pub fn run_parts<'n, I: Io, E: Write>(
     alloc: Global,
-    asked: &JoinParts<'_>,
+    asked: &JoinParts<Option<&'n str>, &'n str>,
     io: &mut I,
     err: &mut E,
 ) -> Status
@@ -92,11 +102,11 @@ pub fn run_parts<I: Io, E: Write>(
         TellsSkipped (parts_shown asked.now) (I.world io.old) old_err new_err result }
 {
     let reading = Reading(asked);
-    let (text, answers) = match read_inputs(alloc, &reading, io) {
-        Ok(inputs) => files_read(inputs),
+    let read = match read_inputs(alloc, &reading, io) {
+        Ok(inputs) => with_bytes(asked, inputs),
         Err(status) => return status,
     };
-    let board = match Board::read(text.as_slice()) {
+    let board = match Board::read(read.board.as_slice()) {
         Ok(board) => board,
         Err(fault) => {
             let refused = told(Digested::Files(&[], None), &Err(Fault::Board(fault)));
@@ -105,10 +115,10 @@ pub fn run_parts<I: Io, E: Write>(
     };
     let asked = BoundInParts {
         board,
-        bound: asked.bound,
-        count: asked.count,
+        bound: read.bound,
+        count: read.count,
     };
-    match join(alloc, answers.as_slice(), &asked) {
+    match join(alloc, read.answers.as_slice(), &asked) {
         Ok(joined) => say_joined(&joined, io, err),
         Err(_) => say_no_memory(io),
     }

@@ -16,7 +16,6 @@ use Rattle.claim_text.specs.declared.claims.Claim.{Claim}
 use Rattle.claim_text.specs.declared.faults.ClaimsFault.{ClaimsFault}
 use Rattle.claim_text.specs.declared.faults.ClaimsFault.TheVariants as claims_fault
 use Rattle.byte_io.specs.declared.streams.WriteFault.{WriteFault}
-use Rattle.byte_io.specs.Shelf.{Bytes}
 use Rattle.pdb_request.specs.declared.requests.Prove.{Prove}
 use Rattle.pdb_run.specs.Answers.{all_bytes}
 use Rattle.pdb_run.specs.Io.{IsWritten}
@@ -28,6 +27,7 @@ use Rattle.pdb_prove.specs.Answers.{IsFoundFor, IsToldOf, are_yes}
 use Rattle.pdb_prove.specs.Prove.{ClaimsFiles, IsUnready, told_lines}
 use Rattle.pdb_prove.specs.declared.batches.Telling.{Telling}
 use Rattle.pdb_prove.specs.declared.prepared.Prepared.{Prepared}
+use Rattle.pdb_prove.specs.declared.runs.ClaimsRead.{ClaimsRead}
 use Rattle.pdb_prove.specs.declared.runs.Wanted.{Wanted}
 use Rattle.pdb_prove.specs.declared.answers.Finding.{Finding}
 use Rattle.pdb_prove.specs.declared.answers.Finding.TheVariants.{Refused}
@@ -38,9 +38,9 @@ use Rattle.pdb_prove.specs.declared.answers.Question.TheVariants.{Bound, Moves, 
 abbrev pub files_read : {A : Type 0} → Prove (Vec ℕ A) (Vec ℕ A) → ClaimsFiles
 files_read prove = record { claims = prove.claims.items; sets = prove.sets.items; tables = all_bytes prove.tables.items }
 
--- files that are given one by one
-abbrev pub given_files : {A : Type 0} → Bytes → Bytes → List (Vec ℕ A) → ClaimsFiles
-given_files claims sets tables = record { claims = claims; sets = sets; tables = all_bytes tables }
+-- the files of claims that were read, with these tables
+abbrev pub files_of : {A : Type 0} → ClaimsRead → List (Vec ℕ A) → ClaimsFiles
+files_of read tables = record { claims = read.text.now; sets = read.bundling.sets.now; tables = all_bytes tables }
 
 -- why nothing is searched, or want of memory, which comes of a text of claims alone
 abbrev pub IsCauseForClaims : Bool → ClaimsFiles → Fault → Type 0

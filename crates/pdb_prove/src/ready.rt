@@ -1,31 +1,22 @@
 //! What is to be known before anything is searched: the claims, the bundle of the tables and the sets, and the automaton of reversals.
 
-ghost use Rattle.std.specs.Prelude.{◌≡◌, ◌≤◌, ◌^◌, Bool, length, map, IfErr, IfNone, IfOk, IfSome, false};
-ghost use Rattle.std.specs.List.{All, AllByRecursion};
+ghost use Rattle.std.specs.Prelude.{◌≡◌, ◌≤◌, Bool, length, map, IfErr, IfNone, IfOk, IfSome};
+ghost use Rattle.std.specs.List.{AllByRecursion};
 ghost use Rattle.puz_board.specs.Boards.{side_of};
-ghost use Rattle.claim_text.specs.Lines.{HasFewLetters};
 ghost use Rattle.claim_text.specs.Shown.{claim_shown};
 ghost use Rattle.claim_text.specs.Texts.{AreClaims};
-ghost use Rattle.pdb_run.specs.Answers.{digest_lines};
-ghost use Rattle.pdb_run.specs.Writing.{digests_of};
 ghost use Rattle.pdb_verdict.specs.FileBundles.{IsReadBundle};
-ghost use Rattle.pdb_prove.specs.Prove.{AreReady, ClaimsFiles, IsFirstOfAnotherSide, digested_files};
+ghost use Rattle.pdb_prove.specs.Prove.{AreReady, ClaimsFiles, IsFirstOfAnotherSide};
 ghost use Rattle.pdb_prove.specs.Posed.{ArePosed};
-ghost use Rattle.pdb_prove.specs.Steps.{IsCauseForClaims, files_read, given_files, of_claims};
+ghost use Rattle.pdb_prove.specs.Steps.{IsCauseForClaims, of_claims};
 
 use crate::posed::starts_over;
-use claim_text::{Claim, ClaimsFault, MOST_CLAIMS, read_claims};
+use claim_text::{Claim, ClaimsFault, MOST_CLAIMS};
 use move_strings::Automaton;
-use pdb_request::Prove;
-use pdb_run::Digested;
-use pdb_verdict::{Bundling, Fault, over_kept_tables, over_tables};
+use pdb_verdict::Fault;
 use puz_walk::Start;
 use set_sum::Bundle;
 use std::alloc::Global;
-use std::convert::identity;
-use std::sync::Wait;
-use std::thread::Threads;
-use work_run::{Gate, Workers};
 
 /// Claims, and a bundle and the automaton of reversals of the side of their boards.
 #[derive(Drop)]
@@ -39,76 +30,8 @@ pub(crate) struct Ready<'b, 'c> {
     ghost one_side: { reversals.side ≡ bundle.side },
 }
 
-/// What is ready over the inputs that were read, or why there is nothing; and the digest lines of the tables and of the claims text,
-/// which are made beside the tables' checks.
-pub(crate) fn make_ready<'i, H: Threads + Wait + Sync, G: Gate + Sync>(
-    read: &'i mut Prove<Vec<u8>, Vec<u8>>,
-    workers: &Workers<'_, H, G>,
-) -> (Digested<'i>, Result<Ready<'i, 'i>, Fault>)
-    ensures digested { digest_lines result.0 ≡ digests_of (digested_files (files_read read.old)) }
-    ensures ready { let files = files_read read.old in IfOk result.1
-        (λ ready. AreReady read.old.fold files (map claim_shown ready.claims.items) ready.bundle) }
-    ensures few { IfOk result.1
-        (λ ready. All (λ claim. HasFewLetters (claim_shown claim)) ready.claims.items) }
-    ensures fault { IfErr result.1 (IsCauseForClaims read.old.fold (files_read read.old)) }
-{
-    let fold = read.fold;
-    let Prove {
-        claims: text,
-        sets,
-        tables,
-        ..
-    } = read;
-    let (text, sets) = (text.as_slice(), sets.as_slice());
-    match read_claims(workers.alloc, text) {
-        Ok(claims) => {
-            let bundling = Bundling { sets, fold };
-            let (digested, bundle) = over_tables(tables, Some(text), bundling, workers, identity);
-            (digested, ready_with(workers.alloc, claims, bundle))
-        }
-        Err(fault) => {
-            let digested = Digested::Files(tables.as_slice(), Some(text));
-            (digested, Err(of_claims(fault)))
-        }
-    }
-}
-
-/// The same over full tables, whose files are only borrowed.
-pub(crate) fn make_full_ready<'i, 'c, H: Threads + Wait + Sync, G: Gate + Sync>(
-    text: &'c [u8],
-    sets: &[u8],
-    tables: &'i [Vec<u8>],
-    workers: &Workers<'_, H, G>,
-) -> (Digested<'i>, Result<Ready<'i, 'c>, Fault>)
-where
-    'c: 'i,
-    ensures digested { let files = given_files text.now sets.now tables.now in
-        digest_lines result.0 ≡ digests_of (digested_files files) }
-    ensures ready { let files = given_files text.now sets.now tables.now in IfOk result.1
-        (λ ready. AreReady false files (map claim_shown ready.claims.items) ready.bundle) }
-    ensures few { IfOk result.1
-        (λ ready. All (λ claim. HasFewLetters (claim_shown claim)) ready.claims.items) }
-    ensures fault { IfErr result.1
-        (IsCauseForClaims false (given_files text.now sets.now tables.now)) }
-{
-    match read_claims(workers.alloc, text) {
-        Ok(claims) => {
-            let bundling = Bundling { sets, fold: false };
-            let (digested, bundle) = over_kept_tables(
-                tables,
-                Some(text),
-                bundling,
-                workers,
-                identity,
-            );
-            (digested, ready_with(workers.alloc, claims, bundle))
-        }
-        Err(fault) => (Digested::Files(tables, Some(text)), Err(of_claims(fault))),
-    }
-}
-
 /// Why nothing is searched, where a text gives no claims.
-fn of_claims(fault: ClaimsFault) -> Fault
+pub(crate) fn of_claims(fault: ClaimsFault) -> Fault
     ensures { result ≡ of_claims fault }
 {
     match fault {
@@ -118,7 +41,7 @@ fn of_claims(fault: ClaimsFault) -> Fault
 }
 
 /// These claims and a bundle, where there is one, and of the side of their boards, with the automaton of that side.
-fn ready_with<'b, 'c>(
+pub(crate) fn ready_with<'b, 'c>(
     alloc: Global,
     claims: Vec<Claim<'c>>,
     bundle: Result<Bundle<'b>, Fault>,

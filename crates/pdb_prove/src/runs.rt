@@ -4,6 +4,7 @@ ghost use Rattle.std.specs.Prelude.{◌≡◌, IfErr, IfOk, IfSome, MatchOption,
 ghost use Rattle.std.specs.List.{All};
 ghost use Rattle.claim_text.specs.Lines.{HasFewLetters};
 ghost use Rattle.claim_text.specs.Shown.{claim_shown};
+ghost use Rattle.claim_text.specs.Texts.{AreClaims};
 ghost use Rattle.set_sum.specs.Bundles.{ShownBundle};
 ghost use Rattle.puz_walk.specs.WordBundles.{HaveWords};
 ghost use Rattle.byte_io.specs.Shelf.{Bytes};
@@ -15,21 +16,22 @@ ghost use Rattle.pdb_run.specs.Writing.{digests_of};
 ghost use Rattle.pdb_verdict.specs.FileBundles.{IsBundleOfFiles};
 ghost use Rattle.pdb_prove.specs.Posed.{ArePosed};
 ghost use Rattle.pdb_prove.specs.Prove.{AreReady, ClaimsFiles, ProveEnds, budget_of, digested_files, in_order, prove_inputs};
-ghost use Rattle.pdb_prove.specs.Steps.{AreCut, AreTold, IsCauseForClaims, IsPreparedFor, IsToldTo, IsWantedFor, files_read};
+ghost use Rattle.pdb_prove.specs.Steps.{AreCut, AreTold, IsCauseForClaims, IsPreparedFor, IsToldTo, IsWantedFor, files_of};
 
 use crate::batches::{Asked, Telling, tell_claims};
 use crate::help::Help;
 use crate::inputs::{Proving, with_bytes};
 use crate::prepared::Prepared;
-use crate::ready::{Ready, make_full_ready, make_ready};
+use crate::ready::{Ready, of_claims, ready_with};
 use byte_io::streams::WriteFault;
-use claim_text::Claim;
+use claim_text::{Claim, read_claims};
 use edge_words::Words;
 use move_strings::Automaton;
 use pdb_request::Prove;
 use pdb_run::{AnswerLines, CommandAnswer, Digested, Io, Status, conclude, read_inputs};
-use pdb_verdict::{Fault, told_or_memory};
+use pdb_verdict::{Bundling, Fault, over_kept_tables, over_tables, told_or_memory};
 use puz_walk::{Outline, Start, WordBundle};
+use std::convert::identity;
 use std::sync::Wait;
 use std::thread::Threads;
 use work_run::{Gate, Workers};
@@ -37,8 +39,8 @@ use work_run::{Gate, Workers};
 /// A whole run of `prove`, whoever checks the tables and searches. Each line is written as soon as it and those before it are
 /// known.
 #[inline(never)] // so that the stack has the values of one command alone
-pub fn run_prove<H: Threads + Wait + Sync, G: Gate + Sync, I: Io>(
-    prove: &Prove<Option<&str>, &str>,
+pub fn run_prove<'n, H: Threads + Wait + Sync, G: Gate + Sync, I: Io>(
+    prove: &Prove<Option<&'n str>, &'n str>,
     workers: &Workers<'_, H, G>,
     io: &mut I,
 ) -> Status
@@ -46,32 +48,64 @@ pub fn run_prove<H: Threads + Wait + Sync, G: Gate + Sync, I: Io>(
     ensures ends { ProveEnds (prove_shown prove.now) (I.world io.old) (I.world io.new) result }
 {
     let command = Proving(prove);
-    let read = match read_inputs(workers.alloc, &command, io) {
+    let files = match read_inputs(workers.alloc, &command, io) {
         Ok(inputs) => with_bytes(prove, inputs),
         Err(status) => return status,
     };
-    if read.fold {
-        run_folded(&command, read, workers, io)
+    let tables = files.tables;
+    let text = files.claims.as_slice();
+    let claims = match read_claims(workers.alloc, text) {
+        Ok(claims) => claims,
+        Err(fault) => {
+            let digested = Digested::Files(tables.as_slice(), Some(text));
+            return tell_fault(&command, digested, of_claims(fault), io);
+        }
+    };
+    let bundling = Bundling {
+        sets: files.sets.as_slice(),
+        fold: files.fold,
+    };
+    let read = ClaimsRead {
+        claims,
+        text,
+        bundling,
+    };
+    if files.fold {
+        run_folded(&command, read, tables, workers, io)
     } else {
-        run_full(&command, read, workers, io)
+        run_full(&command, read, tables, workers, io)
     }
 }
 
-/// The rest of a run over the inputs that were read, where the tables are folded.
+/// Claims that were read, their text, and what makes a bundle of the tables for them.
+#[derive(Drop)]
+struct ClaimsRead<'c> {
+    claims: Vec<Claim<'c>>,
+    text: &'c [u8],
+    bundling: Bundling<'c>,
+}
+
+/// The rest of a run over claims that were read, where the tables are folded.
 #[inline(never)] // so that the stack has the values of one way alone
 fn run_folded<H: Threads + Wait + Sync, G: Gate + Sync, I: Io>(
     command: &Proving<'_, '_>,
-    read: Prove<Vec<u8>, Vec<u8>>,
+    read: ClaimsRead<'_>,
+    mut tables: Vec<Vec<u8>>,
     workers: &Workers<'_, H, G>,
     io: &mut I,
 ) -> Status
+    requires are { AreClaims read.text.now (map claim_shown read.claims.items) }
+    requires few { All (λ claim. HasFewLetters (claim_shown claim)) read.claims.items }
     ensures same_streams { I.streams io.new ≡ I.streams io.old }
-    ensures ends { let arguments = prove_shown command.now.0.now in (old : World)
-        → HasRead (prove_inputs arguments) old (I.world io.old) (in_order (files_read read))
-        → read.fold ≡ arguments.fold → ProveEnds arguments old (I.world io.new) result }
+    ensures ends { let arguments = prove_shown command.now.0.now in
+        let files = files_of read.entry tables.items in (old : World)
+        → HasRead (prove_inputs arguments) old (I.world io.old) (in_order files)
+        → read.entry.bundling.fold ≡ arguments.fold
+        → ProveEnds arguments old (I.world io.new) result }
 {
-    let mut read = read;
-    let (digested, ready) = make_ready(&mut read, workers);
+    let text = Some(read.text);
+    let (digested, bundle) = over_tables(&mut tables, text, read.bundling, workers, identity);
+    let ready = ready_with(workers.alloc, read.claims, bundle);
     let ready = match begin(command, digested, ready, io) {
         Ok(ready) => ready,
         Err(status) => return status,
@@ -82,28 +116,29 @@ fn run_folded<H: Threads + Wait + Sync, G: Gate + Sync, I: Io>(
     }
 }
 
-/// The rest of a run over the inputs that were read, where the tables are full. Once words are wanted and there is memory for them,
+/// The rest of a run over claims that were read, where the tables are full. Once words are wanted and there is memory for them,
 /// the bundle is given up, and then the bytes of each table as its words are made.
 #[inline(never)] // so that the stack has the values of one way alone
 fn run_full<H: Threads + Wait + Sync, G: Gate + Sync, I: Io>(
     command: &Proving<'_, '_>,
-    read: Prove<Vec<u8>, Vec<u8>>,
+    read: ClaimsRead<'_>,
+    tables: Vec<Vec<u8>>,
     workers: &Workers<'_, H, G>,
     io: &mut I,
 ) -> Status
+    requires are { AreClaims read.text.now (map claim_shown read.claims.items) }
+    requires few { All (λ claim. HasFewLetters (claim_shown claim)) read.claims.items }
+    requires full { read.bundling.fold ≡ false }
     ensures same_streams { I.streams io.new ≡ I.streams io.old }
-    ensures ends { let arguments = prove_shown command.now.0.now in (old : World)
-        → HasRead (prove_inputs arguments) old (I.world io.old) (in_order (files_read read))
-        → arguments.fold ≡ false → ProveEnds arguments old (I.world io.new) result }
+    ensures ends { let arguments = prove_shown command.now.0.now in
+        let files = files_of read.entry tables.items in (old : World)
+        → HasRead (prove_inputs arguments) old (I.world io.old) (in_order files)
+        → read.entry.bundling.fold ≡ arguments.fold
+        → ProveEnds arguments old (I.world io.new) result }
 {
-    let Prove {
-        claims: text,
-        sets,
-        tables,
-        ..
-    } = read;
-    let (text, sets) = (text.as_slice(), sets.as_slice());
-    let (digested, ready) = make_full_ready(text, sets, tables.as_slice(), workers);
+    let (files, text) = (tables.as_slice(), Some(read.text));
+    let (digested, bundle) = over_kept_tables(files, text, read.bundling, workers, identity);
+    let ready = ready_with(workers.alloc, read.claims, bundle);
     let ready = match begin(command, digested, ready, io) {
         Ok(ready) => ready,
         Err(status) => return status,
@@ -289,6 +324,7 @@ fn begin<'b, 'c, I: Io>(
 }
 
 /// Tells why nothing is searched.
+#[inline(never)] // so that the stack hasn't its values while claims are searched for
 fn tell_fault<I: Io>(
     command: &Proving<'_, '_>,
     digested: Digested<'_>,

@@ -164,7 +164,7 @@ prove_shown command = record {
   budget = command.budget;
 }
 
-abbrev pub parts_shown : JoinParts → PartsArguments
+abbrev pub parts_shown : JoinParts (Option (Bor (List ℕ))) (Bor (List ℕ)) → PartsArguments
 parts_shown command = record {
   board = option_map (λ s. s.now) command.board;
   bound = command.bound;

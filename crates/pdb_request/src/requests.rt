@@ -16,7 +16,7 @@ pub enum Request<'a> {
     /// `prove`.
     Prove(Prove<Option<&'a str>, &'a str>),
     /// `parts`.
-    JoinParts(JoinParts<'a>),
+    JoinParts(JoinParts<Option<&'a str>, &'a str>),
 }
 
 /// Whether the moves of a puzzle text solve its board.
@@ -116,16 +116,16 @@ pub struct Prove<C, T> {
     pub budget: Option<u64>,
 }
 
-/// A bound of a board, from lines that say that its parts hold: the files that are read, by their names and in the order in which
-/// they are read.
+/// A bound of a board, from lines that say that its parts hold: the files that are read, in the order in which they are read, by
+/// their names or with their bytes.
 #[derive(Debug, PartialEq, Drop)]
-pub struct JoinParts<'a> {
-    /// The file of the board text, or none for standard input.
-    pub board: Option<&'a str>,
+pub struct JoinParts<C, T> {
+    /// The board text, whose name is none for standard input.
+    pub board: C,
     /// How many moves each solution is to have at least.
     pub bound: u8,
     /// How many parts the bound has: an odd number.
     pub count: u16,
     /// The files of answer lines: one or more.
-    pub answers: Vec<&'a str>,
+    pub answers: Vec<T>,
 }

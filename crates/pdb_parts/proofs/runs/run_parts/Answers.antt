@@ -1,10 +1,7 @@
-use Rattle.std.proofs.Common.{◌≡◌, ◌∙◌, [], ap, flat_map, refl, string_bytes, subst}
-use Rattle.puz_board.specs.BoardTexts.{Spells, board_of_text}
+use Rattle.std.proofs.Common.{◌∙◌, [], ap, refl}
+use Rattle.puz_board.specs.BoardTexts.{board_of_text}
 use Rattle.pdb_request.specs.Asked.{parts_shown}
 use Rattle.pdb_run.specs.Answers.{all_bytes}
-use Rattle.pdb_parts.specs.Joining.{are_told, joined_text, whole_lines}
-use Rattle.pdb_parts.specs.Parts.{asked_of_board}
-use Rattle.pdb_parts.specs.Stored.{AreCountsOf}
 use Rattle.pdb_parts.proofs.RunLemmas.{board_refused, ends_joined, ends_unjoined, read_ends, read_tells, tells_joined}
 use Rattle.pdb_parts.proofs.runs.run_parts.Goals as goal
 
@@ -19,51 +16,50 @@ returns-in-Err-clause-told g c = read_tells (parts_shown c.args.asked.now) _ _ _
 -- where the text spells no board, the run ends with the refusal of the text
 pub returns-in-Err-read-clause-ends : goal.returns-in-Err-read-clause-ends
 returns-in-Err-read-clause-ends g c =
+    let read = c.with_bytes-read in
     let is = c.in-Err-read.ensures.exact ∙ ap board_of_text c.as_slice.ensures.value in
-    let refused = board_refused _ c.files_read.result.0.items (all_bytes c.files_read.result.1.items) c.in-Err-read.fault c.files_read.ensures is in
+    let refused = board_refused _ read.result.board.items (all_bytes read.result.answers.items) c.in-Err-read.fault read.ensures.inputs is in
     read_ends (parts_shown c.args.asked.now) c.requires
     (c.conclude.ensures.ends (all_bytes c.in-Ok.inputs.items) _ c.in-Ok.ensures.read (_, refused, c.told-refused.ensures [] refl))
 
 -- of a board text that is refused the errors get nothing
 pub returns-in-Err-read-clause-told : goal.returns-in-Err-read-clause-told
 returns-in-Err-read-clause-told g c =
+    let read = c.with_bytes-read in
     let is = c.in-Err-read.ensures.exact ∙ ap board_of_text c.as_slice.ensures.value in
-    let refused = board_refused _ c.files_read.result.0.items (all_bytes c.files_read.result.1.items) c.in-Err-read.fault c.files_read.ensures is in
+    let refused = board_refused _ read.result.board.items (all_bytes read.result.answers.items) c.in-Err-read.fault read.ensures.inputs is in
     read_tells (parts_shown c.args.asked.now) _ _ _ c.conclude.result
     (c.conclude.ensures.ends (all_bytes c.in-Ok.inputs.items) _ c.in-Ok.ensures.read (_, refused, c.told-refused.ensures [] refl))
 
 -- the parts to be joined are an odd number, 65,535 at most
 pub join-requires : goal.join-requires
-join-requires g c = c.requires
+join-requires g c = rw c.with_bytes-read.ensures.count c.requires
 
 -- where the parts are joined, the run ends with what is said of them
 pub returns-in-Ok-join-clause-ends : goal.returns-in-Ok-join-clause-ends
 returns-in-Ok-join-clause-ends g c =
+    let read = c.with_bytes-read in
     let is = c.in-Ok-read.ensures.exact ∙ ap board_of_text c.as_slice.ensures.value in
-    let asked = asked_of_board (parts_shown c.args.asked.now) c.in-Ok-read.board in
-    let joined = c.in-Ok-join.joined in
-    ends_joined (parts_shown c.args.asked.now) c.requires {mid = g.I.Io.world c.read_inputs.new.io} c.files_read.result.0.items
-    (all_bytes c.files_read.result.1.items) c.in-Ok-read.board c.in-Ok.ensures.read c.files_read.ensures is joined
-    (subst (λ texts. string_bytes joined.text ≡ joined_text (flat_map whole_lines (all_bytes texts)) asked) c.as_slice-2.ensures.value
-    c.in-Ok-join.ensures.text)
-    (subst (λ texts. joined.is_yes ≡ are_told (flat_map whole_lines (all_bytes texts)) asked) c.as_slice-2.ensures.value c.in-Ok-join.ensures.yes)
-    c.say_joined.ensures.said
+    ends_joined (parts_shown c.args.asked.now) c.requires {mid = g.I.Io.world c.read_inputs.new.io} read.result.board.items
+    (all_bytes read.result.answers.items) c.in-Ok-read.board c.in-Ok.ensures.read read.ensures.inputs is c.in-Ok-join.joined
+    (rw (read.ensures.bound, read.ensures.count, c.as_slice-2.ensures.value) at c.in-Ok-join.ensures.text)
+    (rw (read.ensures.bound, read.ensures.count, c.as_slice-2.ensures.value) at c.in-Ok-join.ensures.yes) c.say_joined.ensures.said
 
 -- where the parts are joined, the errors get how many lines were skipped
 pub returns-in-Ok-join-clause-told : goal.returns-in-Ok-join-clause-told
 returns-in-Ok-join-clause-told g c =
+    let read = c.with_bytes-read in
     let is = c.in-Ok-read.ensures.exact ∙ ap board_of_text c.as_slice.ensures.value in
-    let asked = asked_of_board (parts_shown c.args.asked.now) c.in-Ok-read.board in
-    let joined = c.in-Ok-join.joined in
-    tells_joined (parts_shown c.args.asked.now) {mid = g.I.Io.world c.read_inputs.new.io} c.files_read.result.0.items
-    (all_bytes c.files_read.result.1.items) c.in-Ok-read.board c.in-Ok.ensures.read c.files_read.ensures is joined
-    (subst (λ texts. AreCountsOf joined.counts (flat_map whole_lines (all_bytes texts)) asked) c.as_slice-2.ensures.value
-    c.in-Ok-join.ensures.counts) _ _ c.say_joined.result c.say_joined.ensures.told
+    tells_joined (parts_shown c.args.asked.now) {mid = g.I.Io.world c.read_inputs.new.io} read.result.board.items
+    (all_bytes read.result.answers.items) c.in-Ok-read.board c.in-Ok.ensures.read read.ensures.inputs is c.in-Ok-join.joined
+    (rw (read.ensures.bound, read.ensures.count, c.as_slice-2.ensures.value) at c.in-Ok-join.ensures.counts) _ _
+    c.say_joined.result c.say_joined.ensures.told
 
 -- where the text spells a board, the run ends with what comes of its parts
 pub returns-clause-ends : goal.returns-clause-ends
 returns-clause-ends g c =
+    let read = c.with_bytes-read in
     let is = c.in-Ok-read.ensures.exact ∙ ap board_of_text c.as_slice.ensures.value in
-    ends_unjoined (parts_shown c.args.asked.now) c.requires {mid = g.I.Io.world c.read_inputs.new.io} c.files_read.result.0.items
-    (all_bytes c.files_read.result.1.items) c.in-Ok-read.board c.in-Ok.ensures.read c.files_read.ensures is
-    (subst (λ text. Spells text c.in-Ok-read.board) c.as_slice.ensures.value c.in-Ok-read.ensures.ok) c.say_no_memory.ensures.said
+    ends_unjoined (parts_shown c.args.asked.now) c.requires {mid = g.I.Io.world c.read_inputs.new.io} read.result.board.items
+    (all_bytes read.result.answers.items) c.in-Ok-read.board c.in-Ok.ensures.read read.ensures.inputs is
+    (rw c.as_slice.ensures.value at c.in-Ok-read.ensures.ok) c.say_no_memory.ensures.said
