@@ -46,10 +46,11 @@ impl<H, R: Files> Look<'_, H, R> {
 /// Tables of fewer bytes together are checked before anyone has waited for it.
 const MANY_BYTES: u64 = 1 << 22;
 
-/// Whether the check of the tables may take a while, by the sizes of their files. Of what is no plain file no size is known, so it may.
+/// Whether the check of the tables that are named may take a while, by the sizes of their files. Of what is no plain file no size is
+/// known, so it may.
 pub fn takes_long<R: Files>(files: &R, asked: &Request<'_>) -> bool {
     let mut bytes = 0_u64;
-    for name in tables_of(asked) {
+    for name in asked.tables() {
         let size = match fs::metadata(files, *name) {
             Ok(data) if data.is_file() => data.len(),
             Ok(_) => MANY_BYTES,
@@ -58,16 +59,6 @@ pub fn takes_long<R: Files>(files: &R, asked: &Request<'_>) -> bool {
         bytes = bytes.saturating_add(size);
     }
     bytes >= MANY_BYTES
-}
-
-/// The tables that a run checks before all else that it reads but texts.
-fn tables_of<'a, 'x>(asked: &'x Request<'a>) -> &'x [&'a str] {
-    match asked {
-        Request::LogCheck(check) => check.tables.as_slice(),
-        Request::Solve(search) => search.tables.as_slice(),
-        Request::Prove(prove) => prove.tables.as_slice(),
-        _ => &[],
-    }
 }
 
 /// The line of the first refusal that the starts of the files tell already, where there is one: the run that does what was asked can't
