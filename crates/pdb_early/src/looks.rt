@@ -4,12 +4,11 @@ use crate::fronts::FileStart;
 use crate::headers::patterns_of;
 use crate::logs::{differ, log_fault};
 use crate::sets::sets_fault;
-use crate::texts::{board_of, of_another_side};
-use claim_text::read_claims;
+use claim_text::{Claim, read_claims};
 use log_check::LogRefusal;
 use pdb_request::{LogCheck, LogClaim, Prove, Request, Solve};
 use pdb_run::AnswerLines;
-use pdb_verdict::{Fault, line_of};
+use pdb_verdict::{Fault, begin_claim, line_of};
 use puz_board::{Board, Side};
 use puz_make::is_solvable;
 use std::alloc::Global;
@@ -37,7 +36,7 @@ impl<H, R: Files> Look<'_, H, R> {
     fn board(&self, claim: LogClaim, name: &str) -> Option<Option<Board>> {
         let front = self.front(name);
         match front.as_ref().and_then(|front| front.whole()) {
-            Some(text) => Some(Some(board_of(claim, text)?)),
+            Some(text) => Some(Some(begin_claim(claim, text).ok()?.board)),
             None => Some(None),
         }
     }
@@ -134,6 +133,12 @@ fn prove_fault<H: Threads + Wait, R: Files>(
         }
         Err(fault) => Some(fault),
     }
+}
+
+/// The number of the first of these claims whose board has another side.
+fn of_another_side(claims: &[Claim<'_>], side: Side) -> Option<u32> {
+    let number = claims.iter().position(|claim| claim.board.side() != side)?;
+    u32::try_from(number).ok()
 }
 
 /// The side of tables, where it is seen. Or why the tables, or these and a set text, are refused.
