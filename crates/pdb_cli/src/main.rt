@@ -7,6 +7,7 @@ use pdb_early::{Look, line_ahead, takes_long};
 use pdb_program::{ArgumentFault, ProgramCall, RunHost, start};
 use pdb_progress::{Watch, checked_files, is_asked_for};
 use pdb_reason::{Beginning, Heard, Reason};
+use pdb_request::Request;
 use pdb_run::AnswerLines;
 use pdb_words::read_words;
 use std::alloc::Global;
@@ -47,6 +48,11 @@ fn unreadable(rt: &HostRuntime) -> ArgumentFault {
     ArgumentFault::Memory
 }
 
+/// What the arguments ask for, where they are there and ask for anything.
+fn asked_by(alloc: Global, arguments: Option<&Vec<String>>) -> Option<Request<'_>> {
+    read_words(alloc, arguments?.get(1..).unwrap_or_default()).ok()
+}
+
 /// What a file begins with. Of what is no plain file, as a pipe, nothing is read.
 fn beginning_of(rt: &HostRuntime, name: &str) -> io::Result<Beginning> {
     let mut bytes = [0; 4096];
@@ -59,18 +65,17 @@ fn beginning_of(rt: &HostRuntime, name: &str) -> io::Result<Beginning> {
 
 /// Tells on standard error why a run ended without a yes, by its last line, and by the bound below which its last searches ended
 /// without a solution; or why it will end so, by the line that is ahead. What can't be told is left out.
-fn tell_reason(rt: &HostRuntime, line: &[u8], ended: Option<u8>, is_ahead: bool) -> io::Result<()> {
-    let Ok(words) = arguments(rt) else {
+fn tell_reason(
+    rt: &HostRuntime,
+    asked: &Request<'_>,
+    line: &[u8],
+    ended: Option<u8>,
+    is_ahead: bool,
+) -> io::Result<()> {
+    let Some(reason) = Reason::of(asked, line, ended) else {
         return Ok(());
     };
-    let words = words.get(1..).unwrap_or_default();
-    let Ok(asked) = read_words(rt.alloc(), words) else {
-        return Ok(());
-    };
-    let Some(reason) = Reason::of(&asked, line, ended) else {
-        return Ok(());
-    };
-    let reason = reason.on_shelf(&asked, &DiskShelf::new(rt));
+    let reason = reason.on_shelf(asked, &DiskShelf::new(rt));
     let beginning = match reason.name() {
         None => Beginning::OfAny,
         Some(name) => beginning_of(rt, name).unwrap_or(Beginning::OfAny),
@@ -84,10 +89,9 @@ fn tell_reason(rt: &HostRuntime, line: &[u8], ended: Option<u8>, is_ahead: bool)
 fn line_before<R: Files + Threads + Wait>(
     rt: &R,
     alloc: Global,
-    words: &[String],
+    asked: &Request<'_>,
 ) -> Option<AnswerLines> {
-    let asked = read_words(alloc, words.get(1..).unwrap_or_default()).ok()?;
-    if !takes_long(rt, &asked) {
+    if !takes_long(rt, asked) {
         return None;
     }
     let look = Look {
@@ -95,19 +99,15 @@ fn line_before<R: Files + Threads + Wait>(
         alloc,
         files: rt,
     };
-    line_ahead(&look, &asked)
+    line_ahead(&look, asked)
 }
 
 /// The files that the run checks, in order, where they are to be told and can be.
-fn files_to_tell<'a>(rt: &HostRuntime, words: &'a [String]) -> Vec<&'a str> {
+fn files_to_tell<'a>(rt: &HostRuntime, asked: Option<&Request<'a>>) -> Vec<&'a str> {
     let none = Vec::new(rt.alloc());
-    if !is_asked_for(rt) {
-        return none;
-    }
-    let words = words.get(1..).unwrap_or_default();
-    match read_words(rt.alloc(), words) {
-        Ok(asked) => checked_files(rt.alloc(), &asked).unwrap_or(none),
-        Err(_) => none,
+    match asked {
+        Some(asked) if is_asked_for(rt) => checked_files(rt.alloc(), asked).unwrap_or(none),
+        _ => none,
     }
 }
 
@@ -119,12 +119,15 @@ fn main(rt: HostRuntime) -> ExitCode {
     let mut watched = Watched::new(&mut stdout);
     let mut out = Heard::new(&mut watched);
     let mut err = rt.stderr();
-    let words = arguments(&rt).unwrap_or_else(|_| Vec::new(rt.alloc()));
-    if let Some(line) = line_before(&rt, rt.alloc(), words.as_slice()) {
+    let words = arguments(&rt);
+    let asked = asked_by(rt.alloc(), words.as_ref().ok());
+    if let Some(asked) = &asked
+        && let Some(line) = line_before(&rt, rt.alloc(), asked)
+    {
         // The run goes on, whether this is told or not.
-        let _ = tell_reason(&rt, line.trim_end().as_bytes(), None, true);
+        let _ = tell_reason(&rt, asked, line.trim_end().as_bytes(), None, true);
     }
-    let gate = Watch::asked_for(&rt, files_to_tell(&rt, words.as_slice()));
+    let gate = Watch::asked_for(&rt, files_to_tell(&rt, asked.as_ref()));
     let call = ProgramCall {
         host: RunHost {
             rt: &rt,
@@ -134,15 +137,13 @@ fn main(rt: HostRuntime) -> ExitCode {
         arguments: arguments(&rt),
     };
     let status = start(call, &mut shelf, &mut reader, &mut out, &mut err);
-    if status != 0 {
+    if let Some(asked) = &asked
+        && status != 0
+    {
         // Where a write failed, the last line need not be that of the last search.
-        let ended = if status == 1 {
-            gate.ended_below()
-        } else {
-            None
-        };
+        let ended = gate.ended_below().filter(|_| status == 1);
         // Nobody is left to be told that standard error failed.
-        let _ = tell_reason(&rt, out.line(), ended, false);
+        let _ = tell_reason(&rt, asked, out.line(), ended, false);
     }
     ExitCode::from(status)
 }

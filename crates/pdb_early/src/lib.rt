@@ -6,7 +6,6 @@ mod headers;
 mod logs;
 mod looks;
 mod sets;
-mod texts;
 mod tiles;
 
 pub use looks::{Look, line_ahead, takes_long};

@@ -4,12 +4,11 @@ use crate::fronts::FileStart;
 use crate::headers::patterns_of;
 use crate::logs::{differ, log_fault};
 use crate::sets::sets_fault;
-use crate::texts::{board_of, of_another_side};
-use claim_text::read_claims;
+use claim_text::{Claim, read_claims};
 use log_check::LogRefusal;
 use pdb_request::{LogCheck, LogClaim, Prove, Request, Solve};
 use pdb_run::AnswerLines;
-use pdb_verdict::{Fault, line_of};
+use pdb_verdict::{Fault, begin_claim, line_of};
 use puz_board::{Board, Side};
 use puz_make::is_solvable;
 use std::alloc::Global;
@@ -37,7 +36,7 @@ impl<H, R: Files> Look<'_, H, R> {
     fn board(&self, claim: LogClaim, name: &str) -> Option<Option<Board>> {
         let front = self.front(name);
         match front.as_ref().and_then(|front| front.whole()) {
-            Some(text) => Some(Some(board_of(claim, text)?)),
+            Some(text) => Some(Some(begin_claim(claim, text).ok()?.board)),
             None => Some(None),
         }
     }
@@ -46,10 +45,11 @@ impl<H, R: Files> Look<'_, H, R> {
 /// Tables of fewer bytes together are checked before anyone has waited for it.
 const MANY_BYTES: u64 = 1 << 22;
 
-/// Whether the check of the tables may take a while, by the sizes of their files. Of what is no plain file no size is known, so it may.
+/// Whether the check of the tables that are named may take a while, by the sizes of their files. Of what is no plain file no size is
+/// known, so it may.
 pub fn takes_long<R: Files>(files: &R, asked: &Request<'_>) -> bool {
     let mut bytes = 0_u64;
-    for name in tables_of(asked) {
+    for name in asked.tables() {
         let size = match fs::metadata(files, *name) {
             Ok(data) if data.is_file() => data.len(),
             Ok(_) => MANY_BYTES,
@@ -58,16 +58,6 @@ pub fn takes_long<R: Files>(files: &R, asked: &Request<'_>) -> bool {
         bytes = bytes.saturating_add(size);
     }
     bytes >= MANY_BYTES
-}
-
-/// The tables that a run checks before all else that it reads but texts.
-fn tables_of<'a, 'x>(asked: &'x Request<'a>) -> &'x [&'a str] {
-    match asked {
-        Request::LogCheck(check) => check.tables.as_slice(),
-        Request::Solve(search) => search.tables.as_slice(),
-        Request::Prove(prove) => prove.tables.as_slice(),
-        _ => &[],
-    }
 }
 
 /// The line of the first refusal that the starts of the files tell already, where there is one: the run that does what was asked can't
@@ -143,6 +133,12 @@ fn prove_fault<H: Threads + Wait, R: Files>(
         }
         Err(fault) => Some(fault),
     }
+}
+
+/// The number of the first of these claims whose board has another side.
+fn of_another_side(claims: &[Claim<'_>], side: Side) -> Option<u32> {
+    let number = claims.iter().position(|claim| claim.board.side() != side)?;
+    u32::try_from(number).ok()
 }
 
 /// The side of tables, where it is seen. Or why the tables, or these and a set text, are refused.

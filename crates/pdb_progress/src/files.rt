@@ -10,20 +10,12 @@ use std::fmt::{Display, Formatter};
 /// The files that a run checks which does what was asked, in the order of their checks: what a maker makes has the name under which
 /// it is kept.
 pub fn checked_files<'a>(alloc: Global, asked: &Request<'a>) -> Result<Vec<&'a str>, AllocError> {
-    let (tables, last) = match asked {
-        Request::TableCheck(check) => (None, Some(check.file)),
-        Request::LogCheck(check) => (Some(&check.tables), Some(check.log)),
-        Request::MakeTable(making) => (None, Some(making.out)),
-        Request::Solve(search) => (Some(&search.tables), Some(search.out)),
-        Request::Prove(prove) => (Some(&prove.tables), None),
-        _ => (None, None),
-    };
-    let mut files = match tables {
-        Some(tables) => tables.as_slice().to_vec(alloc)?,
-        None => Vec::new(alloc),
-    };
-    if let Some(last) = last {
-        files.push(last)?;
+    let mut files = asked.tables().to_vec(alloc)?;
+    match asked {
+        Request::LogCheck(check) => files.push(check.log)?,
+        Request::MakeTable(making) => files.push(making.out)?,
+        Request::Solve(search) => files.push(search.out)?,
+        _ => {}
     }
     Ok(files)
 }

@@ -192,19 +192,12 @@ fn refusal<'a>(asked: &Request<'a>, code: &str, numbers: [u64; 2]) -> Option<Rea
 
 /// The table with this number, or the one table.
 fn table_name<'a>(asked: &Request<'a>, number: u64) -> Named<'a> {
-    let tables = match asked {
-        Request::TableCheck(check) => return Named::File(check.file),
-        Request::LogCheck(check) => &check.tables,
-        Request::Solve(search) => &search.tables,
-        Request::Prove(prove) => &prove.tables,
-        Request::Replay(_) | Request::MakeTable(_) | Request::JoinParts(_) => return Named::Nothing,
+    let number = match asked {
+        Request::TableCheck(_) => 0,
+        _ => usize::try_from(number).unwrap_or(usize::MAX),
     };
-    match usize::try_from(number) {
-        Ok(number) => tables
-            .get(number)
-            .map_or(Named::Nothing, |name| Named::File(name)),
-        Err(_) => Named::Nothing,
-    }
+    let name = asked.tables().get(number);
+    name.map_or(Named::Nothing, |name| Named::File(name))
 }
 
 /// A file, or standard input where none is named.

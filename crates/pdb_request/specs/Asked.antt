@@ -1,6 +1,6 @@
 -- What words ask for, as bytes and numbers.
 use Rattle.std.specs.Borrow.{Bor}
-use Rattle.std.specs.Prelude.{◌≡◌, ⊤, ℕ, ◌%◌, ◌≤◌, Bool, IfSome, List, Option, map, option_map}
+use Rattle.std.specs.Prelude.{◌≡◌, ⊤, ℕ, ◌%◌, ◌≤◌, Bool, IfSome, List, [], ◌∷◌, Option, map, option_map}
 use Rattle.pdb_request.specs.declared.requests.LogClaim.{LogClaim}
 use Rattle.pdb_request.specs.declared.requests.LogClaim.TheVariants as claim
 use Rattle.pdb_request.specs.declared.requests.LogCheck.{LogCheck}
@@ -186,6 +186,15 @@ request_shown (request.MakeTable command) = make_table (make_table_shown command
 request_shown (request.Solve search) = solve (solve_shown search)
 request_shown (request.Prove command) = prove (prove_shown command)
 request_shown (request.JoinParts command) = parts (parts_shown command)
+
+-- the table files that words name, in the order of their numbers
+abbrev pub named_tables : Asked → List (List ℕ)
+named_tables (table arguments) = arguments.file ∷ []
+named_tables (bound arguments) = arguments.tables
+named_tables (optimal arguments) = arguments.tables
+named_tables (solve arguments) = arguments.tables
+named_tables (prove arguments) = arguments.tables
+named_tables other = []
 
 -- ---- which numbers a request can have
 

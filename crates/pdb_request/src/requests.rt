@@ -1,5 +1,10 @@
 //! What words ask for.
 
+ghost use Rattle.std.specs.Prelude.{◌≡◌};
+ghost use Rattle.pdb_request.specs.Asked.{file_names, named_tables, request_shown};
+
+use std::slice;
+
 /// What words ask for.
 #[derive(Debug, PartialEq, Drop)]
 pub enum Request<'a> {
@@ -17,6 +22,21 @@ pub enum Request<'a> {
     Prove(Prove<Option<&'a str>, &'a str>),
     /// `parts`.
     JoinParts(JoinParts<Option<&'a str>, &'a str>),
+}
+
+impl<'a> Request<'a> {
+    /// The table files that are named, in the order of their numbers.
+    pub fn tables(&self) -> &[&'a str]
+        ensures { file_names result.now ≡ named_tables (request_shown self.now) }
+    {
+        match self {
+            Request::TableCheck(check) => slice::from_ref(&check.file),
+            Request::LogCheck(check) => check.tables.as_slice(),
+            Request::Solve(search) => search.tables.as_slice(),
+            Request::Prove(prove) => prove.tables.as_slice(),
+            Request::Replay(_) | Request::MakeTable(_) | Request::JoinParts(_) => &[],
+        }
+    }
 }
 
 /// Whether the moves of a puzzle text solve its board.

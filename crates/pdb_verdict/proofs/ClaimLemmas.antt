@@ -7,14 +7,15 @@ use Rattle.puz_board.proofs.SpellingLemmas.{board_of_text-spelled, spelled-board
 use Rattle.byte_io.specs.Shelf.{Bytes}
 use Rattle.pdb_request.specs.declared.requests.LogClaim.{LogClaim}
 use Rattle.pdb_request.specs.declared.requests.LogClaim.TheVariants.{Bound, Optimum}
+use Rattle.pdb_verdict.specs.BegunClaims.{begun}
 use Rattle.pdb_verdict.specs.Bound.{IsBoundFor, IsBoundResult, TakesMemoryForBound}
 use Rattle.pdb_verdict.specs.Inputs.{LogFiles, log_claim}
 use Rattle.pdb_verdict.specs.Optimal.{IsFoundForPuzzle, IsLeastCount, IsOptimumResult, TakesMemoryForOptimum}
 use Rattle.pdb_verdict.specs.Refusals.{IsFoundBy, IsTold}
 use Rattle.pdb_verdict.specs.Replay.{solved_parts}
-use Rattle.pdb_verdict.specs.Steps.{IsFoundFor, answer_with, as_optimum, begun}
+use Rattle.pdb_verdict.specs.Steps.{IsFoundFor, answer_with, as_optimum}
 use Rattle.pdb_verdict.specs.Verdicts.{IsAnswerTo}
-use Rattle.pdb_verdict.specs.declared.claims.Begun.{Begun}
+use Rattle.pdb_verdict.specs.declared.claims.BegunClaim.{BegunClaim}
 use Rattle.pdb_verdict.specs.declared.verdicts.Fault.{Fault}
 use Rattle.pdb_verdict.specs.declared.verdicts.Verdict.{Verdict}
 use Rattle.pdb_verdict.proofs.BoundLemmas.{found_one, found_some, proved_bounds}
@@ -69,7 +70,7 @@ module _ (files : LogFiles) where
     optimum_by (Err fault) is = cause_by refused_puzzle (λ takes. (n, (solved-parts files.text board n parts).0, takes)) fault is
 
   -- so it makes the answer
-  pub claim_answered : (claim : LogClaim) (start : Begun) (found : Result ℕ Fault) → begun claim files.text ≡ Ok start
+  pub claim_answered : (claim : LogClaim) (start : BegunClaim) (found : Result ℕ Fault) → begun claim files.text ≡ Ok start
       → ByMemory start.board found → IsAnswerTo (log_claim claim files) (answer_with start.moves found)
   claim_answered Bound start found same is = by_result (board_of_text files.text)
       (λ board spelt.

@@ -1,4 +1,5 @@
 -- What public contracts say.
+pub mod BegunClaims
 pub mod Bound
 pub mod FileBundles
 pub mod Inputs

@@ -1,8 +1,5 @@
 -- What the steps of a check answer: a part of the result, or want of memory in its place.
 use Rattle.std.specs.Prelude.{◌≡◌, ℕ, Bool, true, ◌==◌, if◌then◌else◌, List, [], ◌∷◌, ◌++◌, Option, Some, None, Result, Ok, Err, Vec}
-use Rattle.puz_board.specs.BoardTexts.{board_of_text}
-use Rattle.puz_board.specs.PuzzleTexts.{puzzle_parts}
-use Rattle.puz_board.specs.declared.texts.BoardFault.{BoardFault}
 use Rattle.tab_file.specs.TableFiles.{IsTableFile}
 use Rattle.tab_file.specs.Tables.{Table}
 use Rattle.tab_rule.specs.ExactTables.{IsExactFile}
@@ -15,16 +12,15 @@ use Rattle.log_check.specs.declared.faults.LogFault.{LogFault}
 use Rattle.log_check.specs.declared.faults.LogFault.TheVariants as log_fault
 use Rattle.byte_io.specs.Shelf.{Bytes}
 use Rattle.pdb_request.specs.declared.requests.LogClaim.{LogClaim}
-use Rattle.pdb_request.specs.declared.requests.LogClaim.TheVariants.{Bound, Optimum}
 use Rattle.pdb_request.specs.declared.requests.LogCheck.{LogCheck}
 use Rattle.pdb_run.specs.Answers.{all_bytes}
+use Rattle.pdb_verdict.specs.BegunClaims.{begun}
 use Rattle.pdb_verdict.specs.Bound.{IsBoundFor}
 use Rattle.pdb_verdict.specs.FileBundles.{AreExactFiles, IsFirstRefused, IsReadBundle, TakesMemoryForTables, part_for, parts_for}
 use Rattle.pdb_verdict.specs.Inputs.{Given, LogFiles, log_claim, log_files}
 use Rattle.pdb_verdict.specs.Refusals.{IsFoundBy, told_as}
-use Rattle.pdb_verdict.specs.Replay.{solved_parts}
 use Rattle.pdb_verdict.specs.Verdicts.{IsAnswerTo}
-use Rattle.pdb_verdict.specs.declared.claims.Begun.{Begun}
+use Rattle.pdb_verdict.specs.declared.claims.BegunClaim.{BegunClaim}
 use Rattle.pdb_verdict.specs.declared.verdicts.Fault.{Fault}
 use Rattle.pdb_verdict.specs.declared.verdicts.Fault.TheVariants as fault
 use Rattle.pdb_verdict.specs.declared.verdicts.Verdict.{Verdict}
@@ -90,32 +86,13 @@ abbrev pub as_optimum : ℕ → Result ℕ Fault → Result ℕ Fault
 as_optimum n (Ok bound) = optimum_of n bound
 as_optimum n (Err refused) = Err refused
 
--- a board, and how many moves solve it, where that is claimed
-abbrev pub begun_with : List ℕ → Option ℕ → Begun
-begun_with board moves = record { board = board; moves = moves }
-
--- of a board text
-abbrev pub begun_by_board : Result (List ℕ) BoardFault → Result Begun Fault
-begun_by_board (Ok board) = Ok (begun_with board None)
-begun_by_board (Err refused) = Err (fault.Board refused)
-
--- of a puzzle text
-abbrev pub begun_by_puzzle : Result (List ℕ × ℕ) Fault → Result Begun Fault
-begun_by_puzzle (Ok read) = Ok (begun_with read.0 (Some read.1))
-begun_by_puzzle (Err refused) = Err refused
-
--- what a claim on the text begins with, or why the text is refused
-abbrev pub begun : LogClaim → Bytes → Result Begun Fault
-begun Bound text = begun_by_board (board_of_text text)
-begun Optimum text = begun_by_puzzle (solved_parts (puzzle_parts text))
-
 -- the answer on what is found for the board
 abbrev pub answer_with : Option ℕ → Result ℕ Fault → Result Verdict Fault
 answer_with None found = told_as verdict.Bound found
 answer_with (Some n) found = told_as verdict.Optimal (as_optimum n found)
 
 -- this is the answer to a claim that begins so, on any text that does, over any files of which this is read
-abbrev pub IsAnswerOver : Result ShownBundle Fault → Begun → Bytes → Result Verdict Fault → Type 0
+abbrev pub IsAnswerOver : Result ShownBundle Fault → BegunClaim → Bytes → Result Verdict Fault → Type 0
 IsAnswerOver read start log answer =
     (claim : LogClaim) (fold : Bool) (text sets : Bytes) (tables : List Bytes) → begun claim text ≡ Ok start → IsReadBundle fold tables sets read →
     IsAnswerTo (log_claim claim (log_files fold text sets log tables)) answer

@@ -6,7 +6,7 @@ ghost use Rattle.pdb_verdict.specs.Inputs.{given};
 ghost use Rattle.pdb_verdict.specs.Verdicts.{HoldsOfSolutions, IsAnswerTo, IsTrueOf, LacksMemory};
 
 use crate::bundles::{Bundling, read_bundle};
-use crate::claims::{answer_over, begin};
+use crate::claims::{answer_over, begin_claim};
 use crate::inputs::Inputs;
 use crate::replay::verify_puzzle;
 use crate::table::verify_table;
@@ -61,7 +61,7 @@ fn verify_by<H: Threads + Wait, G: Gate + Sync>(
             tables,
             fold,
         } => {
-            let start = begin(LogClaim::Bound, board)?;
+            let start = begin_claim(LogClaim::Bound, board)?;
             let bundle = read_bundle(tables, Bundling { sets, fold }, workers);
             answer_over(bundle, &start, log, workers)
         }
@@ -72,7 +72,7 @@ fn verify_by<H: Threads + Wait, G: Gate + Sync>(
             tables,
             fold,
         } => {
-            let start = begin(LogClaim::Optimum, puzzle)?;
+            let start = begin_claim(LogClaim::Optimum, puzzle)?;
             let bundle = read_bundle(tables, Bundling { sets, fold }, workers);
             answer_over(bundle, &start, log, workers)
         }

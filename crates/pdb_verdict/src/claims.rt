@@ -2,9 +2,10 @@
 //! puzzle text are a solution, and none has fewer.
 
 ghost use Rattle.std.specs.Prelude.{◌≡◌, Bool, List, ℕ};
+ghost use Rattle.pdb_verdict.specs.BegunClaims.{begun};
 ghost use Rattle.pdb_verdict.specs.FileBundles.{IsReadBundle};
 ghost use Rattle.pdb_verdict.specs.Optimal.{IsOptimumOver};
-ghost use Rattle.pdb_verdict.specs.Steps.{IsAnswerOver, IsFoundFor, answer_with, begun, optimum_of};
+ghost use Rattle.pdb_verdict.specs.Steps.{IsAnswerOver, IsFoundFor, answer_with, optimum_of};
 
 use crate::replay::solved_board;
 use crate::verdicts::{Fault, Verdict};
@@ -16,26 +17,29 @@ use std::sync::Wait;
 use std::thread::Threads;
 use work_run::{Gate, Workers};
 
-/// What a claim begins with: the board of its text, and of a puzzle text how many moves solve it.
-#[derive(Clone, Copy)]
-pub(crate) struct Begun {
-    pub(crate) board: Board,
-    pub(crate) moves: Option<u16>,
+/// What a claim on a log begins with.
+#[derive(Clone, Copy, Debug, PartialEq, Eq)]
+pub struct BegunClaim {
+    /// The board of its text.
+    pub board: Board,
+    /// Of a puzzle text how many moves solve the board, and of a board text none.
+    pub moves: Option<u16>,
 }
 
-/// What a claim on a text begins with. Or why the text is refused, before anything else is looked at.
-pub(crate) fn begin(claim: LogClaim, text: &[u8]) -> Result<Begun, Fault>
+/// What a claim on a log begins with, by its text: a board text for a bound, a puzzle text for an optimum. Or why the text is
+/// refused, which is told before anything else is looked at. It takes no memory and waits for nobody.
+pub fn begin_claim(claim: LogClaim, text: &[u8]) -> Result<BegunClaim, Fault>
     ensures { result ≡ begun claim text.now }
 {
     match claim {
         LogClaim::Bound => {
             let board = Board::read(text)?;
-            Ok(Begun { board, moves: None })
+            Ok(BegunClaim { board, moves: None })
         }
         LogClaim::Optimum => {
             let (board, moves) = solved_board(text)?;
             let moves = Some(moves);
-            Ok(Begun { board, moves })
+            Ok(BegunClaim { board, moves })
         }
     }
 }
@@ -45,7 +49,7 @@ pub(crate) fn begin(claim: LogClaim, text: &[u8]) -> Result<Begun, Fault>
 #[tactic(auto, using(crate::proofs::ClaimLemmas::claim_answered))]
 pub(crate) fn answer_over<H: Threads + Wait, G: Gate + Sync>(
     bundle: Result<Bundle<'_>, Fault>,
-    start: &Begun,
+    start: &BegunClaim,
     log: &[u8],
     workers: &Workers<'_, H, G>,
 ) -> Result<Verdict, Fault>

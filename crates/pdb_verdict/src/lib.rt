@@ -21,7 +21,7 @@ mod verdicts;
 
 pub use bundles::Bundling;
 pub use checks::verify;
-pub use claims::optimum_over;
+pub use claims::{BegunClaim, begin_claim, optimum_over};
 pub use inputs::Inputs;
 pub use known::known_table;
 pub use laws::{

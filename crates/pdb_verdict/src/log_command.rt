@@ -10,7 +10,7 @@ ghost use Rattle.pdb_verdict.specs.Steps.{IsAnswerOver, claim_read};
 ghost use Rattle.pdb_verdict.specs.Verdicts.{TakesMemory, TellsResult};
 
 use crate::bundles::Bundling;
-use crate::claims::{answer_over, begin};
+use crate::claims::{answer_over, begin_claim};
 use crate::limits::{a_log, a_text, with_tables};
 use crate::reports::told_or_memory;
 use crate::tables::over_tables;
@@ -98,7 +98,7 @@ fn answer_log_check<'i, H: Threads + Wait + Sync, G: Gate + Sync>(
         ..
     } = check;
     let (sets, log) = (sets.as_slice(), log.as_slice());
-    match begin(claim, text.as_slice()) {
+    match begin_claim(claim, text.as_slice()) {
         Ok(start) => {
             let check = |bundle: Result<Bundle<'_>, Fault>| -> Result<Verdict, Fault>
                 ensures { IsAnswerOver bundle.entry start log.entry.now result }

@@ -11,7 +11,7 @@ ghost use Rattle.pdb_words.specs.Faults.{IsCauseOfWordFault, IsMistakeOrMemory, 
 ghost use Rattle.pdb_words.specs.Workers.{HasWorkers};
 
 use crate::commands::with_statuses;
-use crate::faults::{WordFault, count_fault, fault_by, mask_fault};
+use crate::faults::{WordFault, even_count_text, fault_by, mistake, wrong_mask_text};
 use crate::log_checks::{bound_command, check_in, optimal_command};
 use crate::make_table::{make_table_command, make_table_in, wrong_mask_in};
 use crate::parts::{count_in, has_odd_count, parts_command, parts_in};
@@ -120,12 +120,12 @@ fn wrong_value(alloc: Global, matches: &ArgMatches<'_>) -> Option<WordFault>
     match matches.subcommand() {
         Some(("make-table", found)) => match wrong_mask_in(found) {
             None => None,
-            Some(word) => Some(mask_fault(alloc, word)),
+            Some(word) => Some(mistake(alloc, wrong_mask_text(alloc, word))),
         },
         Some(("parts", found)) => if has_odd_count(found) {
             None
         } else {
-            Some(count_fault(alloc, count_in(found)))
+            Some(mistake(alloc, even_count_text(alloc, count_in(found))))
         },
         _ => None,
     }

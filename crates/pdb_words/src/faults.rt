@@ -63,23 +63,12 @@ pub(crate) fn fault_by(alloc: Global, error: clap::Error) -> WordFault
         ErrorKind::OutOfMemory => WordFault::Memory,
         ErrorKind::DisplayHelp => WordFault::Help(text),
         ErrorKind::DisplayVersion => WordFault::Version,
-        _ => mistake(alloc, text.as_str()),
-    }
-}
-
-/// The fault that this word writes no mask.
-pub(crate) fn mask_fault(alloc: Global, word: &str) -> WordFault
-    ensures kind { IsMistakeOrMemory result }
-    ensures plain { IsPlainlySaid result }
-{
-    match mask_mistake(alloc, word) {
-        Ok(text) => mistake(alloc, text.as_str()),
-        Err(_) => WordFault::Memory,
+        _ => mistake(alloc, Ok(text)),
     }
 }
 
 /// What is said of a word that writes no mask, in the form of any other mistake.
-fn mask_mistake(alloc: Global, word: &str) -> Result<String, AllocError> {
+pub(crate) fn wrong_mask_text(alloc: Global, word: &str) -> Result<String, AllocError> {
     let before = format!(in alloc; "error: invalid value '{word}' for '<MASK>': ")?;
     let behind = "\n\nFor more information, try '--help'.\n";
     if !word.is_empty() && word.bytes().all(|b| b.is_ascii_digit()) {
@@ -95,31 +84,24 @@ fn mask_mistake(alloc: Global, word: &str) -> Result<String, AllocError> {
     format!(in alloc; "{before}{wanted}{behind}")
 }
 
-/// The fault that this count of parts isn't odd.
-pub(crate) fn count_fault(alloc: Global, count: u16) -> WordFault
-    ensures kind { IsMistakeOrMemory result }
-    ensures plain { IsPlainlySaid result }
-{
-    match count_mistake(alloc, count) {
-        Ok(text) => mistake(alloc, text.as_str()),
-        Err(_) => WordFault::Memory,
-    }
-}
-
 /// What is said of a count of parts that isn't odd, in the form of any other mistake.
-fn count_mistake(alloc: Global, count: u16) -> Result<String, AllocError> {
+pub(crate) fn even_count_text(alloc: Global, count: u16) -> Result<String, AllocError> {
     format!(in alloc;
         "error: invalid value '{count}' for '<K>': a bound has an odd number of parts\n\nFor more information, try '--help'.\n"
     )
 }
 
-/// The mistake that a text explains, with `?` for each byte that is neither LF nor printable ASCII, so that no word of the
-/// user's moves a terminal.
-fn mistake(alloc: Global, text: &str) -> WordFault
+/// The mistake that a text explains, where there was memory for it, with `?` for each byte that is neither LF nor printable
+/// ASCII, so that no word of the user's moves a terminal.
+#[tactic(auto, using(crate::proofs::TextLemmas::all_plain))]
+pub(crate) fn mistake(alloc: Global, text: Result<String, AllocError>) -> WordFault
     ensures kind { IsMistakeOrMemory result }
     ensures plain { IsPlainlySaid result }
 {
-    match plain_text(alloc, text) {
+    let Ok(text) = text else {
+        return WordFault::Memory;
+    };
+    match plain_text(alloc, text.as_str()) {
         Ok(text) => WordFault::Mistake(text),
         Err(_) => WordFault::Memory,
     }

@@ -1,9 +1,9 @@
 //! Which runs may take long.
 
-use crate::asked::{bound, prove, search};
-use crate::same::same_for;
+use crate::asked::{bound, prove, search, told};
+use crate::same::{same_for, same_text};
 use pdb_early::takes_long;
-use pdb_request::{Replay, Request, TableCheck};
+use pdb_request::{MakeTable, Replay, Request, TableCheck};
 use std::alloc::{AllocError, AllocGlobal, Global};
 use std::process::Abort;
 use std::test::Fail;
@@ -59,16 +59,30 @@ fn tables_of_many_bytes_may_take_long(rt: HostRuntime) -> Result<(), Fail> {
 }
 
 #[test]
-fn what_checks_no_tables_first_is_not_looked_at(rt: HostRuntime) -> Result<(), Fail> {
-    let alloc = rt.alloc();
-    let bytes = vec![in alloc; 0_u8; MANY]?;
-    let files = SampleFiles::new(alloc, &[("t0", bytes.as_slice())])?;
+fn what_names_no_tables_is_not_looked_at(rt: HostRuntime) -> Result<(), Fail> {
+    let files = large_files(rt.alloc())?;
     let replay = Request::Replay(Replay { puzzle: Some("t0") });
+    let making = Request::MakeTable(MakeTable {
+        side: 2,
+        mask: 14,
+        out: "t0",
+        replace: false,
+        workers: 1,
+    });
+    assert!(rt; !takes_long(&files, &replay));
+    assert!(rt; !takes_long(&files, &making));
+    Ok(())
+}
+
+#[test]
+fn of_a_table_alone_nothing_is_told(rt: HostRuntime) -> Result<(), Fail> {
+    let alloc = rt.alloc();
+    let files = large_files(alloc)?;
     let table = Request::TableCheck(TableCheck {
         file: "t0",
         workers: 1,
     });
-    assert!(rt; !takes_long(&files, &replay));
-    assert!(rt; !takes_long(&files, &table));
+    assert!(rt; takes_long(&files, &table));
+    same_text(&rt, told(&rt, alloc, &table, &files)?.as_str(), "");
     Ok(())
 }

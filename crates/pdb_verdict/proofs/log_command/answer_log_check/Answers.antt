@@ -10,7 +10,7 @@ pub returns-in-Err : goal.returns-in-Err
 returns-in-Err g c =
     let files = files_read c.args.check.now in
     let inputs = claim_read c.args.check.now in
-    let why = rw (c.begin.ensures, c.as_slice.ensures.value) at c.in-Err.is in
+    let why = rw (c.begin_claim.ensures, c.as_slice.ensures.value) at c.in-Err.is in
     let same : c.digested_beside-digested.result.1 ≡ Err c.in-Err.refused = search (rules, c.digested_beside-digested.ensures.answer) in
     let lines = rw (c.as_slice-log.ensures.value, c.as_slice-tables.ensures.value) at c.digested_beside-digested.ensures.digested in
     result_told inputs _ c.told_or_memory-in-Err.result (rw same (claim_refused files c.args.check.now.claim c.in-Err.refused why))
@@ -21,7 +21,7 @@ pub returns-in-Ok : goal.returns-in-Ok
 returns-in-Ok g c =
     let files = files_read c.args.check.now in
     let inputs = claim_read c.args.check.now in
-    let started = rw (c.begin.ensures, c.as_slice.ensures.value) at c.in-Ok.is in
+    let started = rw (c.begin_claim.ensures, c.as_slice.ensures.value) at c.in-Ok.is in
     let found = rw (c.as_slice-sets.ensures.value, c.as_slice-log.ensures.value) at c.over_tables-digested.ensures.found in
     let lines = rw c.as_slice-log.ensures.value at c.over_tables-digested.ensures.digested in
     result_told inputs _ c.told_or_memory.result (found.2.1 c.args.check.now.claim c.args.check.now.fold files.text files.sets files.tables started found.1)
