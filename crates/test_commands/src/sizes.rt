@@ -1,7 +1,7 @@
 //! Which runs may take long.
 
-use crate::asked::{bound, prove, search, told};
-use crate::same::{same_for, same_text};
+use crate::asked::{bound, prove, search};
+use crate::same::same_for;
 use pdb_early::takes_long;
 use pdb_request::{MakeTable, Replay, Request, TableCheck};
 use std::alloc::{AllocError, AllocGlobal, Global};
@@ -55,6 +55,11 @@ fn tables_of_many_bytes_may_take_long(rt: HostRuntime) -> Result<(), Fail> {
     }
     assert!(rt; takes_long(&files, &search(rt.alloc())?));
     assert!(rt; takes_long(&files, &prove(rt.alloc(), None)?));
+    let table = Request::TableCheck(TableCheck {
+        file: "t0",
+        workers: 1,
+    });
+    assert!(rt; takes_long(&files, &table));
     Ok(())
 }
 
@@ -71,18 +76,5 @@ fn what_names_no_tables_is_not_looked_at(rt: HostRuntime) -> Result<(), Fail> {
     });
     assert!(rt; !takes_long(&files, &replay));
     assert!(rt; !takes_long(&files, &making));
-    Ok(())
-}
-
-#[test]
-fn of_a_table_alone_nothing_is_told(rt: HostRuntime) -> Result<(), Fail> {
-    let alloc = rt.alloc();
-    let files = large_files(alloc)?;
-    let table = Request::TableCheck(TableCheck {
-        file: "t0",
-        workers: 1,
-    });
-    assert!(rt; takes_long(&files, &table));
-    same_text(&rt, told(&rt, alloc, &table, &files)?.as_str(), "");
     Ok(())
 }
