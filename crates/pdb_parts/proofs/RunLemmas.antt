@@ -1,12 +1,12 @@
 -- How a run of `parts` ends.
-use Rattle.std.proofs.Common.{◌≡◌, ◌∙◌, ◌∷◌, ◌⊎◌, ℕ, List, [], None, Option, Some, Ok, Err, ap, false, flat_map, inl, inr, refl, string_bytes, subst, sym}
+use Rattle.std.proofs.Common.{◌≡◌, ◌∙◌, ◌∷◌, ◌⊎◌, ℕ, List, [], None, Option, Some, Ok, Err, ap, false, flat_map, inl, inr, refl, string_bytes, subst}
 use Rattle.std.proofs.KnownBytes.{Appends-nil, Keeps-refl}
-use Rattle.std.specs.Io.KnownBytes.{Appends, Keeps}
+use Rattle.std.specs.Io.KnownBytes.{Appends}
 use Rattle.puz_board.specs.BoardTexts.{Spells, board_of_text}
 use Rattle.puz_board.specs.declared.texts.BoardFault.{BoardFault}
 use Rattle.claim_text.specs.Parts.{AreParts}
 use Rattle.byte_io.specs.Shelf.{Bytes}
-use Rattle.byte_io.specs.Streams.{AppendsFront, Output}
+use Rattle.byte_io.specs.Streams.{AppendsFront}
 use Rattle.pdb_request.specs.Asked.{PartsArguments}
 use Rattle.pdb_run.specs.Commands.{Reply}
 use Rattle.pdb_run.specs.Inputs.{AreRead}

@@ -8,10 +8,9 @@ use Rattle.tab_file.specs.declared.headers.HeadFault.{HeadFault}
 use Rattle.tab_file.proofs.FileLemmas.{IfErr-first, table_or_fault}
 use Rattle.tab_rule.specs.BadEntries.{IsLeastBadEntry}
 use Rattle.tab_rule.specs.ExactTables.{IsExactFile}
-use Rattle.tab_rule.specs.TableFaults.{IsTableCauseOf, IsTableFaultOf}
+use Rattle.tab_rule.specs.TableFaults.{IsTableCauseOf}
 use Rattle.tab_rule.specs.declared.tables.TableFault.{TableFault}
 use Rattle.tab_rule.specs.declared.tables.TableFault.TheVariants.{Memory, Refused}
-use Rattle.tab_rule.specs.declared.tables.TableRefusal.{TableRefusal}
 use Rattle.tab_rule.specs.declared.tables.TableRefusal.TheVariants.{Head, T7}
 use Rattle.tab_rule.proofs.OneResultLemmas.{IsTableFaultOf-one, exact_one, exact_or_fault}
 

@@ -1,7 +1,7 @@
 use Rattle.std.proofs.Common.{◌+◌, ◌∷◌, ◌++◌, ◌||◌, [], append_assoc, ap, arith, not, refl, sym, ◌∙◌}
 use Rattle.std.specs.Str.{bytes_eq}
-use Rattle.pdb_parts.specs.Joining.{part_line, whole_lines}
-use Rattle.pdb_parts.specs.Stored.{AreCountsOf, shown}
+use Rattle.pdb_parts.specs.Joining.{part_line}
+use Rattle.pdb_parts.specs.Stored.{shown}
 use Rattle.pdb_parts.proofs.CountLemmas.{counted_line, one_at_most, skipped_by}
 use Rattle.pdb_parts.proofs.MarkLemmas.{line_more}
 use Rattle.pdb_parts.proofs.marks.mark_text.Goals as goal
