@@ -47,7 +47,7 @@ The number of boards is that of the last search, which finds no shorter solution
 KORF_AND_FELNER = """\
 ## The 24-puzzle: {count} boards of Korf and Felner
 
-These are {count} of the fifty random boards of Korf and Felner (2002): those of which `prove` found a shortest solution within 1.5 billion boards. Their solutions have {least} to {most} moves. The files: [boards and moves](results/korf_felner_2002.claims), and [answers](results/korf_felner_2002.answers). The tables have 3.6 GB, and the run takes 7.6 GB:
+These are {count} of the fifty random boards of Korf and Felner (2002): those of which `prove` found a shortest solution within 1.5 billion boards. Their solutions have {least} to {most} moves. The files: [boards and moves](results/korf_felner_2002.claims), and [answers](results/korf_felner_2002.answers). The tables have 3.6 GB, and the run takes 4.9 GB:
 
 ```
 for mask in 4326 25368 3247104 30277632; do ./pdb_cli make-table 5 $mask t$mask --workers 4; done
