@@ -1,5 +1,5 @@
-//! Tests of what the rest stands on: boards, moves and placements, kernels over columns, texts of claims, and strings of moves and
-//! automata; the book of jobs, as a machine and shared by threads, workers, and what is told of their progress.
+//! Tests of what the rest stands on: boards, moves and placements, kernels over columns, texts of claims, and strings of moves
+//! and automata; the book of jobs, as a machine and shared by threads, workers, and what is told of their progress.
 #![tactic(auto)]
 
 #[cfg(test)]
