@@ -27,7 +27,7 @@ use pdb_run::{
     CommandAnswer, Digested, Io, Keeping, Status, Unanswered, beside, digested_beside,
     keep_and_conclude, read_inputs_and_try,
 };
-use pdb_verdict::{Bundling, Fault, optimum_over, over_tables, settled, told};
+use pdb_verdict::{Fault, TableFiles, given_up, optimum_over, over_tables, settled, told};
 use puz_board::{Board, BoardFault};
 use puz_make::{Found, solve_watched};
 use set_sum::Bundle;
@@ -84,8 +84,10 @@ fn answer_search<'i, H: Threads + Wait + Sync, G: Gate + Sync>(
                     → CameTo fold budget text sets tables result }
             { search_in(bundle, &board, budget, workers) };
             let sets = sets.as_slice();
-            let bundling = Bundling { sets, fold };
-            let (digested, outcome) = over_tables(tables, None, bundling, workers, search);
+            let given = given_up(tables, fold);
+            let kept = tables.as_slice();
+            let files = TableFiles { given, kept, fold };
+            let (digested, outcome) = over_tables(files, None, sets, workers, search);
             answer_of(digested, outcome)
         }
         Err(refused) => {

@@ -40,7 +40,7 @@ files_read prove = record { claims = prove.claims.items; sets = prove.sets.items
 
 -- the files of claims that were read, with these tables
 abbrev pub files_of : {A : Type 0} → ClaimsRead → List (Vec ℕ A) → ClaimsFiles
-files_of read tables = record { claims = read.text.now; sets = read.bundling.sets.now; tables = all_bytes tables }
+files_of read tables = record { claims = read.text.now; sets = read.sets.now; tables = all_bytes tables }
 
 -- why nothing is searched, or want of memory, which comes of a text of claims alone
 abbrev pub IsCauseForClaims : Bool → ClaimsFiles → Fault → Type 0

@@ -29,7 +29,7 @@ use edge_words::Words;
 use move_strings::Automaton;
 use pdb_request::Prove;
 use pdb_run::{AnswerLines, CommandAnswer, Digested, Io, Status, conclude, read_inputs};
-use pdb_verdict::{Bundling, Fault, over_kept_tables, over_tables, told_or_memory};
+use pdb_verdict::{Fault, TableFiles, given_up, over_tables, told_or_memory};
 use puz_walk::{Outline, Start, WordBundle};
 use std::convert::identity;
 use std::sync::Wait;
@@ -61,33 +61,28 @@ pub fn run_prove<'n, H: Threads + Wait + Sync, G: Gate + Sync, I: Io>(
             return tell_fault(&command, digested, of_claims(fault), io);
         }
     };
-    let bundling = Bundling {
-        sets: files.sets.as_slice(),
-        fold: files.fold,
-    };
     let read = ClaimsRead {
         claims,
         text,
-        bundling,
+        sets: files.sets.as_slice(),
+        fold: files.fold,
     };
-    if files.fold {
-        run_folded(&command, read, tables, workers, io)
-    } else {
-        run_full(&command, read, tables, workers, io)
-    }
+    tell_all(&command, read, tables, workers, io)
 }
 
-/// Claims that were read, their text, and what makes a bundle of the tables for them.
+/// Claims that were read, their text, the set text, and whether the tables for them are folded.
 #[derive(Drop)]
 struct ClaimsRead<'c> {
     claims: Vec<Claim<'c>>,
     text: &'c [u8],
-    bundling: Bundling<'c>,
+    sets: &'c [u8],
+    fold: bool,
 }
 
-/// The rest of a run over claims that were read, where the tables are folded.
-#[inline(never)] // so that the stack has the values of one way alone
-fn run_folded<H: Threads + Wait + Sync, G: Gate + Sync, I: Io>(
+/// The rest of a run over claims that were read. Over full tables words may be wanted: once there is memory for them, the bundle is
+/// given up, and then the bytes of each table as its words are made.
+#[inline(never)] // so that the stack hasn't what was needed to read them
+fn tell_all<H: Threads + Wait + Sync, G: Gate + Sync, I: Io>(
     command: &Proving<'_, '_>,
     read: ClaimsRead<'_>,
     mut tables: Vec<Vec<u8>>,
@@ -100,51 +95,21 @@ fn run_folded<H: Threads + Wait + Sync, G: Gate + Sync, I: Io>(
     ensures ends { let arguments = prove_shown command.now.0.now in
         let files = files_of read.entry tables.items in (old : World)
         → HasRead (prove_inputs arguments) old (I.world io.old) (in_order files)
-        → read.entry.bundling.fold ≡ arguments.fold
+        → read.entry.fold ≡ arguments.fold
         → ProveEnds arguments old (I.world io.new) result }
 {
-    let text = Some(read.text);
-    let (digested, bundle) = over_tables(&mut tables, text, read.bundling, workers, identity);
-    let ready = ready_with(workers.alloc, read.claims, bundle);
-    let ready = match begin(command, digested, ready, io) {
-        Ok(ready) => ready,
-        Err(status) => return status,
-    };
-    match tell_over_tables(&ready, false, budget_of(command.0), workers, io) {
-        Ok((telling, _)) => status_of(telling.is_yes),
-        Err(_) => Status::Fault,
-    }
-}
-
-/// The rest of a run over claims that were read, where the tables are full. Once words are wanted and there is memory for them,
-/// the bundle is given up, and then the bytes of each table as its words are made.
-#[inline(never)] // so that the stack has the values of one way alone
-fn run_full<H: Threads + Wait + Sync, G: Gate + Sync, I: Io>(
-    command: &Proving<'_, '_>,
-    read: ClaimsRead<'_>,
-    tables: Vec<Vec<u8>>,
-    workers: &Workers<'_, H, G>,
-    io: &mut I,
-) -> Status
-    requires are { AreClaims read.text.now (map claim_shown read.claims.items) }
-    requires few { All (λ claim. HasFewLetters (claim_shown claim)) read.claims.items }
-    requires full { read.bundling.fold ≡ false }
-    ensures same_streams { I.streams io.new ≡ I.streams io.old }
-    ensures ends { let arguments = prove_shown command.now.0.now in
-        let files = files_of read.entry tables.items in (old : World)
-        → HasRead (prove_inputs arguments) old (I.world io.old) (in_order files)
-        → read.entry.bundling.fold ≡ arguments.fold
-        → ProveEnds arguments old (I.world io.new) result }
-{
-    let (files, text) = (tables.as_slice(), Some(read.text));
-    let (digested, bundle) = over_kept_tables(files, text, read.bundling, workers, identity);
+    let fold = read.fold;
+    let given = given_up(&mut tables, fold);
+    let kept = tables.as_slice();
+    let files = TableFiles { given, kept, fold };
+    let (digested, bundle) = over_tables(files, Some(read.text), read.sets, workers, identity);
     let ready = ready_with(workers.alloc, read.claims, bundle);
     let ready = match begin(command, digested, ready, io) {
         Ok(ready) => ready,
         Err(status) => return status,
     };
     let budget = budget_of(command.0);
-    let (telling, wanted) = match tell_over_tables(&ready, true, budget, workers, io) {
+    let (telling, wanted) = match tell_over_tables(&ready, !fold, budget, workers, io) {
         Ok(told) => told,
         Err(_) => return Status::Fault,
     };
@@ -224,8 +189,7 @@ fn tell_over_tables<H: Threads + Sync, G: Gate + Sync, I: Io>(
     requires few { All (λ claim. HasFewLetters (claim_shown claim)) ready.now.claims.items }
     ensures wanted { IfOk result (λ told. MatchOption told.1
         (told.0.told ≡ length ready.now.claims.items) (IsWantedFor ready.now.bundle)) }
-    ensures goes_on { may_want_words ≡ false
-        → IfOk result (λ told. told.0.told ≡ length ready.now.claims.items) }
+    ensures goes_on { may_want_words ≡ false → IfOk result (λ told. told.1 ≡ None) }
     ensures same_streams { I.streams io.new ≡ I.streams io.old }
     ensures told { let shown = map claim_shown ready.now.claims.items in
         MatchResult result

@@ -1,5 +1,5 @@
 -- Table files that are checked one after the other: one file more, and its digest line.
-use Rattle.std.proofs.Common.{◌≡◌, ◌∙◌, ℕ, Bool, true, List, [], ◌∷◌, ◌++◌, MatchResult, Vec, Result, Ok, Err, IfErr, IfOk, ap₂, length, refl, sym}
+use Rattle.std.proofs.Common.{◌≡◌, ◌∙◌, ℕ, Bool, true, List, [], ◌∷◌, ◌++◌, MatchResult, Vec, Result, Ok, Err, ap₂, length, refl, sym}
 use Rattle.std.proofs.lemmas.List.{flat_map_more, length-map, map-append}
 use Rattle.tab_file.specs.Tables.{Table}
 use Rattle.tab_rule.specs.ExactTables.{IsExactFile}
@@ -8,7 +8,7 @@ use Rattle.byte_io.specs.Shelf.{Bytes}
 use Rattle.pdb_run.specs.Answers.{all_bytes}
 use Rattle.pdb_run.specs.Writing.{digest_line, digests_of}
 use Rattle.pdb_verdict.specs.FileBundles.{AreExactFiles, IsCauseForBundle, part_for}
-use Rattle.pdb_verdict.specs.Steps.{ArePartsOf, HasOneMore, IsCauseAt, IsCauseForTables, IsPartOf}
+use Rattle.pdb_verdict.specs.Steps.{AreNextParts, ArePartsOf, IsCauseAt, IsCauseForTables}
 use Rattle.pdb_verdict.specs.declared.verdicts.Fault.{Fault}
 
 -- the digest line of one file more
@@ -33,19 +33,16 @@ cause_behind _ _ rest file cause are is = search
 module _ {Z : Type 0} (fold : Bool) (before rest files : List (Vec ℕ Z)) (file : Vec ℕ Z) (now : Bytes)
     (same : now ≡ file.items) (whole : before ++ file ∷ rest ≡ files) (parts : List Part)
     (so_far : ArePartsOf fold (all_bytes before) parts) where
-  -- the parts of one file more
-  pub next_parts : (part : Part) → IsPartOf fold now part
-      → ArePartsOf fold (all_bytes (before ++ file ∷ [])) (parts ++ part ∷ [])
-  next_parts part is = record {
+  -- the parts of one file more, or why there aren't those of all
+  pub next_parts : {Y : Type 0} (after : Result (Vec Part Y) Fault) → AreNextParts fold parts now after
+      → MatchResult after (λ ps. ArePartsOf fold (all_bytes (before ++ file ∷ [])) ps.items) (IsCauseForTables (all_bytes files))
+  next_parts (Ok more) (part, is, one_more) = record {
     tables = so_far.tables ++ is.0 ∷ [];
     exact = rw (map-append, ← same) (next_exact so_far.tables (all_bytes before) is.0 now so_far.exact is.1);
-    are = ap₂ (λ (xs : List Part) (x : Part). xs ++ x ∷ []) so_far.are is.2 ∙ sym (map-append (part_for fold) so_far.tables (is.0 ∷ []));
+    are = one_more ∙ ap₂ (λ (xs : List Part) (x : Part). xs ++ x ∷ []) so_far.are is.2
+        ∙ sym (map-append (part_for fold) so_far.tables (is.0 ∷ []));
   }
-
-  -- what keeps its table away keeps away those of all
-  pub next_cause : (cause : Fault) → IsCauseAt (length parts) now cause
-      → IsCauseForTables (all_bytes files) cause
-  next_cause cause is =
+  next_parts (Err cause) is =
       rw (← whole, map-append, ← same) (cause_behind so_far.tables (all_bytes before) (all_bytes rest) now cause
       so_far.exact (rw (so_far.are, length-map) at is))
 
@@ -55,15 +52,11 @@ bundle_cause fold files sets (Fault.TableOf number refused) is = is
 bundle_cause fold files sets Fault.Memory is = is
 bundle_cause fold files sets _ is = absurd is
 
--- the parts of one file more, or why there aren't those of all
+-- the same of parts that are there or not, where those that aren't there don't come back
 pub fold_step : {Z Y : Type 0} (before rest files : List (Vec ℕ Z)) (file : Vec ℕ Z) (now : Bytes) → now ≡ file.items
     → before ++ file ∷ rest ≡ files → (parts after : Result (Vec Part Y) Fault)
     → MatchResult parts (λ ps. ArePartsOf true (all_bytes before) ps.items) (IsCauseForTables (all_bytes files))
-    → IfOk after (λ more. MatchResult parts (λ ps. HasOneMore ps.items now more.items) (λ _. ⊥))
-    → IfErr after (λ cause. MatchResult parts (λ ps. IsCauseAt (length ps.items) now cause) (λ refused. cause ≡ refused))
+    → MatchResult parts (λ ps. AreNextParts true ps.items now after) (λ refused. after ≡ Err refused)
     → MatchResult after (λ ps. ArePartsOf true (all_bytes (before ++ file ∷ [])) ps.items) (IsCauseForTables (all_bytes files))
-fold_step before rest files file now same whole (Ok ps) (Ok qs) are ok err =
-    rw ok.2 (next_parts true before rest files file now same whole ps.items are ok.0 ok.1)
-fold_step before rest files file now same whole (Ok ps) (Err cause) are ok err = next_cause _ _ _ _ _ _ same whole _ are cause err
-fold_step before rest files file now same whole (Err refused) (Ok qs) are ok err = absurd ok
-fold_step before rest files file now same whole (Err refused) (Err cause) are ok err = rw err are
+fold_step before rest files file now same whole (Ok ps) after are is = next_parts true before rest files file now same whole ps.items are after is
+fold_step before rest files file now same whole (Err refused) after are is = rw is are

@@ -1,5 +1,5 @@
 -- What the steps of a check answer: a part of the result, or want of memory in its place.
-use Rattle.std.specs.Prelude.{◌≡◌, ℕ, Bool, true, ◌==◌, if◌then◌else◌, List, [], ◌∷◌, ◌++◌, Option, Some, None, Result, Ok, Err, Vec}
+use Rattle.std.specs.Prelude.{◌≡◌, ◌≤◌, ℕ, Bool, true, ◌==◌, if◌then◌else◌, List, [], ◌∷◌, ◌++◌, Option, Some, None, Result, MatchResult, Ok, Err, Vec, length}
 use Rattle.tab_file.specs.TableFiles.{IsTableFile}
 use Rattle.tab_file.specs.Tables.{Table}
 use Rattle.tab_rule.specs.ExactTables.{IsExactFile}
@@ -14,6 +14,7 @@ use Rattle.byte_io.specs.Shelf.{Bytes}
 use Rattle.pdb_request.specs.declared.requests.LogClaim.{LogClaim}
 use Rattle.pdb_request.specs.declared.requests.LogCheck.{LogCheck}
 use Rattle.pdb_run.specs.Answers.{all_bytes}
+use Rattle.pdb_run.specs.declared.digests.TheConstants.{FILES_BESIDE}
 use Rattle.pdb_verdict.specs.BegunClaims.{begun}
 use Rattle.pdb_verdict.specs.Bound.{IsBoundFor}
 use Rattle.pdb_verdict.specs.FileBundles.{AreExactFiles, IsFirstRefused, IsReadBundle, TakesMemoryForTables, part_for, parts_for}
@@ -32,10 +33,6 @@ use Rattle.pdb_verdict.specs.declared.verdicts.Verdict.TheVariants as verdict
 abbrev pub IsPartOf : Bool → Bytes → Part → Type 0
 IsPartOf fold file part = (table : Table) × IsExactFile table file × (part ≡ part_for fold table)
 
--- the parts after one file more, whose table is folded
-abbrev pub HasOneMore : List Part → Bytes → List Part → Type 0
-HasOneMore before file after = (part : Part) × IsPartOf true file part × (after ≡ before ++ part ∷ [])
-
 -- the parts are the exact tables of all files, folded or full
 pub record ArePartsOf (fold : Bool) (files : List Bytes) (parts : List Part) : Type 0 where
   pub tables : List Table
@@ -48,6 +45,11 @@ IsCauseAt number file (fault.TableOf i refused) = (i ≡ number) × IsTableFault
 IsCauseAt number file fault.Memory = (table : Table) × IsTableFile table file
 IsCauseAt number file _ = ⊥
 
+-- these are the parts and that for one file more, or why there aren't those
+abbrev pub AreNextParts : {A : Type 0} → Bool → List Part → Bytes → Result (Vec Part A) Fault → Type 0
+AreNextParts fold before file after =
+    MatchResult after (λ more. (part : Part) × IsPartOf fold file part × (more.items ≡ before ++ part ∷ [])) (IsCauseAt (length before) file)
+
 -- why there aren't the tables of all files: the first that is refused, or want of memory
 abbrev pub IsCauseForTables : List Bytes → Fault → Type 0
 IsCauseForTables files (fault.TableOf number refused) = IsFirstRefused files number refused
@@ -55,6 +57,15 @@ IsCauseForTables files fault.Memory = TakesMemoryForTables files
 IsCauseForTables files _ = ⊥
 
 -- ---- files
+
+-- all files of tables: those that are given up, where there are such, and else those that are kept
+abbrev pub given_or : {A B : Type 0} → Option (Vec A B) → List A → List A
+given_or None kept = kept
+given_or (Some given) kept = given.items
+
+-- tables are folded, and the files that are given up are not too many for it
+abbrev pub IsGivenUp : {A B : Type 0} → Bool → Vec A B → Type 0
+IsGivenUp fold given = (fold ≡ true) × (length given.items ≤ FILES_BESIDE)
 
 -- the files that were read for a check of a log
 abbrev pub files_read : {A : Type 0} → LogCheck (Vec ℕ A) → LogFiles

@@ -5,7 +5,7 @@ ghost use Rattle.work_run.specs.Workers.{AreWorkers};
 ghost use Rattle.pdb_verdict.specs.Inputs.{given};
 ghost use Rattle.pdb_verdict.specs.Verdicts.{HoldsOfSolutions, IsAnswerTo, IsTrueOf, LacksMemory};
 
-use crate::bundles::{Bundling, read_bundle};
+use crate::bundles::{bundle_of, parts_of};
 use crate::claims::{answer_over, begin_claim};
 use crate::inputs::Inputs;
 use crate::replay::verify_puzzle;
@@ -62,7 +62,7 @@ fn verify_by<H: Threads + Wait, G: Gate + Sync>(
             fold,
         } => {
             let start = begin_claim(LogClaim::Bound, board)?;
-            let bundle = read_bundle(tables, Bundling { sets, fold }, workers);
+            let bundle = bundle_of(parts_of(tables, fold, workers), sets);
             answer_over(bundle, &start, log, workers)
         }
         Inputs::Optimal {
@@ -73,7 +73,7 @@ fn verify_by<H: Threads + Wait, G: Gate + Sync>(
             fold,
         } => {
             let start = begin_claim(LogClaim::Optimum, puzzle)?;
-            let bundle = read_bundle(tables, Bundling { sets, fold }, workers);
+            let bundle = bundle_of(parts_of(tables, fold, workers), sets);
             answer_over(bundle, &start, log, workers)
         }
     }

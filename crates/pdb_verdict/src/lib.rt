@@ -19,7 +19,6 @@ mod table_command;
 mod tables;
 mod verdicts;
 
-pub use bundles::Bundling;
 pub use checks::verify;
 pub use claims::{BegunClaim, begin_claim, optimum_over};
 pub use inputs::Inputs;
@@ -36,5 +35,5 @@ pub use replay_command::run_replay;
 pub use reports::{digests, line, report, settled, told, told_or_memory};
 pub use table::verify_table;
 pub use table_command::run_table;
-pub use tables::{over_kept_tables, over_tables};
+pub use tables::{TableFiles, given_up, over_tables};
 pub use verdicts::{Fault, Verdict};

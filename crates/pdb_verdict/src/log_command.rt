@@ -9,11 +9,10 @@ ghost use Rattle.pdb_verdict.specs.Plans.{log_check_plan};
 ghost use Rattle.pdb_verdict.specs.Steps.{IsAnswerOver, claim_read};
 ghost use Rattle.pdb_verdict.specs.Verdicts.{TakesMemory, TellsResult};
 
-use crate::bundles::Bundling;
 use crate::claims::{answer_over, begin_claim};
 use crate::limits::{a_log, a_text, with_tables};
 use crate::reports::told_or_memory;
-use crate::tables::over_tables;
+use crate::tables::{TableFiles, given_up, over_tables};
 use crate::verdicts::{Fault, Verdict};
 use pdb_request::LogCheck;
 use pdb_run::{Command, CommandAnswer, Input, Io, Status, conclude, digested_beside, read_inputs};
@@ -103,8 +102,10 @@ fn answer_log_check<'i, H: Threads + Wait + Sync, G: Gate + Sync>(
             let check = |bundle: Result<Bundle<'_>, Fault>| -> Result<Verdict, Fault>
                 ensures { IsAnswerOver bundle.entry start log.entry.now result }
             { answer_over(bundle, &start, log, workers) };
-            let bundling = Bundling { sets, fold };
-            let (digested, answer) = over_tables(tables, Some(log), bundling, workers, check);
+            let given = given_up(tables, fold);
+            let kept = tables.as_slice();
+            let files = TableFiles { given, kept, fold };
+            let (digested, answer) = over_tables(files, Some(log), sets, workers, check);
             told_or_memory(digested, answer)
         }
         Err(refused) => {

@@ -9,7 +9,7 @@ pub answer_of-requires : goal.answer_of-requires
 answer_of-requires g c =
     let asked = c.args.search.now in
     let spelt : Spells asked.board.items c.in-Ok.board = search (rules, c.read.ensures.ok) in
-    let read = c.over_tables-digested.ensures.found in
+    let read = rw (c.as_slice-kept.ensures.value, c.given_up-given.ensures.all) at c.over_tables-digested.ensures.found in
     made_moves asked.fold asked.budget asked.board.items _ _ c.over_tables-digested.result.1 (read.2.1 _ _ _ _ spelt read.1)
 
 -- for a text that spells a board, what is answered is what the search over the tables came to
@@ -17,8 +17,8 @@ pub returns-in-Ok : goal.returns-in-Ok
 returns-in-Ok g c =
     let asked = c.args.search.now in
     let spelt : Spells asked.board.items c.in-Ok.board = search (rules, c.read.ensures.ok) in
-    let read = rw c.as_slice-sets.ensures.value at c.over_tables-digested.ensures.found in
-    let lines = rw append-nil at c.over_tables-digested.ensures.digested in
+    let read = rw (c.as_slice-sets.ensures.value, c.as_slice-kept.ensures.value, c.given_up-given.ensures.all) at c.over_tables-digested.ensures.found in
+    let lines = rw (append-nil, c.as_slice-kept.ensures.value, c.given_up-given.ensures.all) at c.over_tables-digested.ensures.digested in
     c.answer_of.ensures asked.fold asked.budget asked.board.items asked.sets.items (all_bytes asked.tables.items) lines (read.2.1 _ _ _ _ spelt read.1)
 
 -- for a text that spells no board, what is answered is the refusal of the text

@@ -22,7 +22,7 @@ returns-in-Ok g c =
     let files = files_read c.args.check.now in
     let inputs = claim_read c.args.check.now in
     let started = rw (c.begin_claim.ensures, c.as_slice.ensures.value) at c.in-Ok.is in
-    let found = rw (c.as_slice-sets.ensures.value, c.as_slice-log.ensures.value) at c.over_tables-digested.ensures.found in
-    let lines = rw c.as_slice-log.ensures.value at c.over_tables-digested.ensures.digested in
+    let found = rw (c.as_slice-sets.ensures.value, c.as_slice-log.ensures.value, c.as_slice-kept.ensures.value, c.given_up-given.ensures.all) at c.over_tables-digested.ensures.found in
+    let lines = rw (c.as_slice-log.ensures.value, c.as_slice-kept.ensures.value, c.given_up-given.ensures.all) at c.over_tables-digested.ensures.digested in
     result_told inputs _ c.told_or_memory.result (found.2.1 c.args.check.now.claim c.args.check.now.fold files.text files.sets files.tables started found.1)
     (c.told_or_memory.ensures.told (digested_of inputs) lines) c.told_or_memory.ensures.memory

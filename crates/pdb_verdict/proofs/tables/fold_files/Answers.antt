@@ -10,14 +10,14 @@ loop-file-preserved g c =
     let so_far = c.loop-file.invariant in
     let before = c.loop-file.yielded in
     let file = c.in-Some.file in
-    let is = c.as_slice.ensures.value in
+    let is = c.as_slice-file.ensures.value in
     let whole = rw c.in-Some.ensures.steps.0 at so_far.whole in
     record {
       can_next = tt;
       is_finite = tt;
       whole = rw append_assoc whole;
-      lines = rw (map-append, ← is, digests_of_snoc, ← so_far.lines) c.fold_next-parts.ensures.line;
-      count = omega (arith, length-append before (file ∷ []), so_far.count, c.fold_next-parts.ensures.length);
-      parts = fold_step before (into_iter_items c.next.new.self) c.args.files.items file c.as_slice.result.now is whole
-          c.loop-file.parts c.fold_next-parts.result so_far.parts c.fold_next-parts.ensures.ok c.fold_next-parts.ensures.err;
+      lines = rw (map-append, ← is, digests_of_snoc, ← so_far.lines) c.with_digest-parts.ensures.line;
+      count = omega (arith, length-append before (file ∷ []), so_far.count, c.with_digest-parts.ensures.length);
+      parts = fold_step before (into_iter_items c.next.new.self) c.args.files.items file c.as_slice-file.result.now is whole
+          c.loop-file.parts c.with_digest-parts.result so_far.parts c.with_digest-parts.ensures.answer;
     }

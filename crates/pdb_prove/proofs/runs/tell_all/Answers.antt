@@ -1,4 +1,4 @@
-use Rattle.std.proofs.Common.{◌≡◌, ◌∙◌, ◌+◌, ◌-◌, arith, length, map, sym}
+use Rattle.std.proofs.Common.{◌≡◌, ◌∙◌, ◌+◌, ◌-◌, Bool, true, false, not, Option, Some, None, arith, length, map, refl, sym}
 use Rattle.std.specs.List.{All}
 use Rattle.std.proofs.lemmas.List.{length-map}
 use Rattle.std.proofs.lemmas.List.Elements.{All-drop, All-take}
@@ -11,26 +11,31 @@ use Rattle.pdb_prove.specs.Steps.{files_of}
 use Rattle.pdb_prove.proofs.EndLemmas.{all_answered, lines_cut}
 use Rattle.pdb_prove.proofs.PosedLemmas.{posed_behind}
 use Rattle.pdb_prove.proofs.TellingLemmas.{next_cut, next_told, rest_shown, whole_told}
-use Rattle.pdb_prove.proofs.runs.run_full.Goals as goal
+use Rattle.pdb_prove.proofs.runs.tell_all.Goals as goal
+
+-- words are wanted of full tables alone
+full_where : {A : Type 0} (fold : Bool) (wanted : Option A) (w : A) → (not fold ≡ false → wanted ≡ None) → wanted ≡ Some w → fold ≡ false
+full_where false wanted w none some = refl
+full_where true wanted w none some = absurd (let no : None ≡ Some w = sym (none refl) ∙ some in cc)
 
 -- where nothing is ready, or the digests aren't all written, the run ends so
 pub returns-in-Err-clause-ends : goal.returns-in-Err-clause-ends
 returns-in-Err-clause-ends g c = λ old are same.
     let files = files_of c.args.read c.args.tables.items in
-    let over = c.over_kept_tables-digested.ensures in
-    let made = rw (same, ← over.found.2.1, c.as_slice-files.ensures.value) at over.found.1 in
+    let over = c.over_tables-digested.ensures in
+    let made = rw (same, ← over.found.2.1, c.as_slice-kept.ensures.value, c.given_up-given.ensures.all) at over.found.1 in
     let ready = c.ready_with-ready.ensures in
-    c.in-Err.ensures.ended files old are (rw c.as_slice-files.ensures.value at over.digested)
+    c.in-Err.ensures.ended files old are (rw (c.as_slice-kept.ensures.value, c.given_up-given.ensures.all) at over.digested)
     (ready.ok _ files c.requires.are made) (ready.err _ files c.requires.are made)
 
 -- where the lines over the tables aren't all written, the run is cut short
 pub returns-in-Err-tell_over_tables-clause-ends : goal.returns-in-Err-tell_over_tables-clause-ends
 returns-in-Err-tell_over_tables-clause-ends g c = λ old are same.
     let files = files_of c.args.read c.args.tables.items in
-    let over = c.over_kept_tables-digested.ensures in
-    let made = rw (same, ← over.found.2.1, c.as_slice-files.ensures.value) at over.found.1 in
+    let over = c.over_tables-digested.ensures in
+    let made = rw (same, ← over.found.2.1, c.as_slice-kept.ensures.value, c.given_up-given.ensures.all) at over.found.1 in
     let ready = rw c.in-Ok.ensures.ready at (c.ready_with-ready.ensures.ok _ files c.requires.are made) in
-    let head = rw (over.digested, c.as_slice-files.ensures.value) at c.in-Ok.ensures.begun in
+    let head = rw (over.digested, c.as_slice-kept.ensures.value, c.given_up-given.ensures.all) at c.in-Ok.ensures.begun in
     let cut = rw c.budget_of-budget.ensures at c.in-Err-tell_over_tables.ensures.told in
     lines_cut (prove_shown c.args.command.now.0.now) files _ _ are ready head cut
 
@@ -38,10 +43,10 @@ returns-in-Err-tell_over_tables-clause-ends g c = λ old are same.
 pub returns-in_default-clause-ends : goal.returns-in_default-clause-ends
 returns-in_default-clause-ends g c = λ old are same.
     let files = files_of c.args.read c.args.tables.items in
-    let over = c.over_kept_tables-digested.ensures in
-    let made = rw (same, ← over.found.2.1, c.as_slice-files.ensures.value) at over.found.1 in
+    let over = c.over_tables-digested.ensures in
+    let made = rw (same, ← over.found.2.1, c.as_slice-kept.ensures.value, c.given_up-given.ensures.all) at over.found.1 in
     let ready = rw c.in-Ok.ensures.ready at (c.ready_with-ready.ensures.ok _ files c.requires.are made) in
-    let head = rw (over.digested, c.as_slice-files.ensures.value) at c.in-Ok.ensures.begun in
+    let head = rw (over.digested, c.as_slice-kept.ensures.value, c.given_up-given.ensures.all) at c.in-Ok.ensures.begun in
     let claims = c.in-Ok.ready.claims.items in
     let count = (rw c.in_default.is at c.in-Ok-tell_over_tables.ensures.wanted) ∙ sym (length-map claims claim_shown) in
     let all = rw c.budget_of-budget.ensures at (whole_told (map claim_shown claims) _ count c.in-Ok-tell_over_tables.ensures.told.all) in
@@ -51,11 +56,12 @@ returns-in_default-clause-ends g c = λ old are same.
 pub fill-worded-requires-after_bounds : goal.fill-worded-requires-after_bounds
 fill-worded-requires-after_bounds g c _ _ =
     let files = files_of c.args.read c.args.tables.items in
-    let over = c.over_kept_tables-digested.ensures in
-    let made = rw (c.requires.full, ← over.found.2.1, c.as_slice-files.ensures.value) at over.found.1 in
+    let over = c.over_tables-digested.ensures in
+    let full = full_where c.args.read.fold _ _ c.in-Ok-tell_over_tables.ensures.goes_on c.in-Some.is in
+    let made = rw (full, ← over.found.2.1, c.as_slice-kept.ensures.value, c.given_up-given.ensures.all) at over.found.1 in
     let ready = rw c.in-Ok.ensures.ready at (c.ready_with-ready.ensures.ok _ files c.requires.are made) in
     let wanted = rw c.in-Some.is at c.in-Ok-tell_over_tables.ensures.wanted in
-    (_, _, ready.is_bundle, wanted.prepared)
+    rw (c.given_up-given.ensures.full full) (_, _, ready.is_bundle, wanted.prepared)
 
 -- the claims that are left have few letters, as all claims do
 pub tell_over_words-requires-clause-few : goal.tell_over_words-requires-clause-few
@@ -82,21 +88,23 @@ tell_over_words-requires-clause-posed g c _ _ =
 pub tell_over_words-requires-clause-words : goal.tell_over_words-requires-clause-words
 tell_over_words-requires-clause-words g c _ _ =
     let files = files_of c.args.read c.args.tables.items in
-    let over = c.over_kept_tables-digested.ensures in
-    let made = rw (c.requires.full, ← over.found.2.1, c.as_slice-files.ensures.value) at over.found.1 in
+    let over = c.over_tables-digested.ensures in
+    let full = full_where c.args.read.fold _ _ c.in-Ok-tell_over_tables.ensures.goes_on c.in-Some.is in
+    let made = rw (full, ← over.found.2.1, c.as_slice-kept.ensures.value, c.given_up-given.ensures.all) at over.found.1 in
     let ready = rw c.in-Ok.ensures.ready at (c.ready_with-ready.ensures.ok _ files c.requires.are made) in
     let wanted = rw c.in-Some.is at c.in-Ok-tell_over_tables.ensures.wanted in
     let outline = c.fill-worded.ensures.outline ∙ wanted.prepared.outline in
-    rw outline (c.fill-worded.ensures.words _ _ ready.is_bundle wanted.prepared)
+    let of_files = rw (← c.given_up-given.ensures.full full) at ready.is_bundle in
+    rw outline (c.fill-worded.ensures.words _ _ of_files wanted.prepared)
 
 -- where all lines over words are written too, the run ends with the answers to all claims
 pub returns-in-Ok-tell_over_words-clause-ends : goal.returns-in-Ok-tell_over_words-clause-ends
 returns-in-Ok-tell_over_words-clause-ends g c = λ old are same.
     let files = files_of c.args.read c.args.tables.items in
-    let over = c.over_kept_tables-digested.ensures in
-    let made = rw (same, ← over.found.2.1, c.as_slice-files.ensures.value) at over.found.1 in
+    let over = c.over_tables-digested.ensures in
+    let made = rw (same, ← over.found.2.1, c.as_slice-kept.ensures.value, c.given_up-given.ensures.all) at over.found.1 in
     let ready = rw c.in-Ok.ensures.ready at (c.ready_with-ready.ensures.ok _ files c.requires.are made) in
-    let head = rw (over.digested, c.as_slice-files.ensures.value) at c.in-Ok.ensures.begun in
+    let head = rw (over.digested, c.as_slice-kept.ensures.value, c.given_up-given.ensures.all) at c.in-Ok.ensures.begun in
     let claims = c.in-Ok.ready.claims.items in
     let shown = map claim_shown claims in
     let first = c.in-Ok-tell_over_tables.ensures.told in
@@ -114,10 +122,10 @@ returns-in-Ok-tell_over_words-clause-ends g c = λ old are same.
 pub returns-clause-ends : goal.returns-clause-ends
 returns-clause-ends g c = λ old are same.
     let files = files_of c.args.read c.args.tables.items in
-    let over = c.over_kept_tables-digested.ensures in
-    let made = rw (same, ← over.found.2.1, c.as_slice-files.ensures.value) at over.found.1 in
+    let over = c.over_tables-digested.ensures in
+    let made = rw (same, ← over.found.2.1, c.as_slice-kept.ensures.value, c.given_up-given.ensures.all) at over.found.1 in
     let ready = rw c.in-Ok.ensures.ready at (c.ready_with-ready.ensures.ok _ files c.requires.are made) in
-    let head = rw (over.digested, c.as_slice-files.ensures.value) at c.in-Ok.ensures.begun in
+    let head = rw (over.digested, c.as_slice-kept.ensures.value, c.given_up-given.ensures.all) at c.in-Ok.ensures.begun in
     let claims = c.in-Ok.ready.claims.items in
     let shown = map claim_shown claims in
     let told = c.in-Ok-tell_over_tables.told.0.told in
