@@ -3,3 +3,4 @@ mod ExactLemmas
 mod FileLemmas
 mod FoldLemmas
 mod SolutionLemmas
+mod TakenLemmas

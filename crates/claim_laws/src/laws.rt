@@ -1,6 +1,7 @@
-//! Laws of shortest solutions and of exact tables. Each function here says what holds of all of them, and does nothing.
+//! Laws of shortest solutions, of exact tables and of logs. Each function here says what holds of all of them, and does nothing.
 
 ghost use Rattle.claim_laws.specs.FoldedLogs.{FoldedLogsAreGoodUnfolded};
+ghost use Rattle.claim_laws.specs.KeptLogs.{KeptLogsAreTaken};
 ghost use Rattle.claim_laws.specs.Solutions.{ShortestSolutionsTakeNothingBack};
 ghost use Rattle.claim_laws.specs.TableFiles.{PatternsHaveOneExactFile};
 
@@ -17,4 +18,9 @@ pub fn patterns_have_one_exact_file()
 /// A log that proves a bound with `--fold` proves it without.
 pub fn folded_logs_are_good_unfolded()
     ensures { FoldedLogsAreGoodUnfolded }
+{}
+
+/// What `solve` keeps `bound` takes: over the same files it answers the number of the moves.
+pub fn kept_logs_are_taken()
+    ensures { KeptLogsAreTaken }
 {}

@@ -1,4 +1,3 @@
 pub mod KeptLemmas
 pub mod LetterLemmas
 mod MakerLemmas
-mod TakenLemmas

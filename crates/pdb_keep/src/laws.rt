@@ -1,6 +1,6 @@
 //! What holds of all runs of makers. Each function here says it, and does nothing.
 
-ghost use Rattle.pdb_keep.specs.Laws.{KeptLogsAreTaken, KeptLogsProveOptima, KeptTablesAreExact, ToldMovesSolve};
+ghost use Rattle.pdb_keep.specs.Laws.{KeptLogsProveOptima, KeptTablesAreExact, ToldMovesSolve};
 
 /// With a yes `make-table` has kept the exact table of its pattern, and told its line.
 #[tactic(auto, using(crate::proofs::KeptLemmas::table_kept))]
@@ -17,9 +17,4 @@ pub fn kept_logs_prove_optima()
 /// The moves that `solve` tells are a moves text that solves the board.
 pub fn told_moves_solve()
     ensures { ToldMovesSolve }
-{}
-
-/// What `solve` keeps `bound` takes: over the same files it answers the number of the moves.
-pub fn kept_logs_are_taken()
-    ensures { KeptLogsAreTaken }
 {}

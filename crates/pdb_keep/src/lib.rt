@@ -12,8 +12,6 @@ mod solutions;
 mod solve;
 mod spared;
 
-pub use laws::{
-    kept_logs_are_taken, kept_logs_prove_optima, kept_tables_are_exact, told_moves_solve,
-};
+pub use laws::{kept_logs_prove_optima, kept_tables_are_exact, told_moves_solve};
 pub use make_table::run_make_table;
 pub use solve::run_solve;

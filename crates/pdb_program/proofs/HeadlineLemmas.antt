@@ -23,11 +23,11 @@ use Rattle.pdb_run.specs.declared.statuses.Status.{Status}
 use Rattle.pdb_run.specs.declared.statuses.Status.TheVariants.{Fault, NoMemory, Yes, Refused}
 use Rattle.pdb_verdict.specs.Inputs.{Given, files_in_order, puzzle_text, table_file}
 use Rattle.pdb_verdict.specs.Lines.{digested_of, line_of_verdict}
-use Rattle.pdb_verdict.specs.Plans.{check_plan, log_check_inputs, log_given, replay_inputs, table_inputs, table_plan}
 use Rattle.pdb_verdict.specs.Verdicts.{HoldsOfSolutions, IsTrueOf}
 use Rattle.pdb_verdict.specs.declared.verdicts.Verdict.{Verdict}
-use Rattle.pdb_verdict.proofs.ReadLemmas.{files_stood, log_stood, replay_stood, table_stood}
 use Rattle.pdb_verdict.proofs.VerdictLemmas.{no_told, yes_told}
+use Rattle.pdb_check.specs.Plans.{check_plan, log_check_inputs, log_given, replay_inputs, table_inputs, table_plan}
+use Rattle.pdb_check.proofs.ReadLemmas.{files_stood, log_stood, replay_stood, table_stood}
 use Rattle.pdb_keep.specs.Laws.{told_moves}
 use Rattle.pdb_keep.specs.Solve.{letters_of, moves_line}
 use Rattle.pdb_keep.proofs.KeptLemmas.{file-kept, log_answered, search_stood, table_answered}

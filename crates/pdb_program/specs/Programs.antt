@@ -11,7 +11,7 @@ use Rattle.pdb_run.specs.Inputs.{IsFirstUnread}
 use Rattle.pdb_run.specs.Runs.{Ends, HasCause, HasMade, IsAnswered, IsSpared, Outcome, World, status_of, text_of}
 use Rattle.pdb_run.specs.Statuses.{status_number}
 use Rattle.pdb_run.specs.declared.statuses.Status.{Status}
-use Rattle.pdb_verdict.specs.Plans.{log_check_plan, replay_plan, table_plan}
+use Rattle.pdb_check.specs.Plans.{log_check_plan, replay_plan, table_plan}
 use Rattle.pdb_keep.specs.Kept.{IsLogKept, IsTableKept}
 use Rattle.pdb_keep.specs.MakeTable.{make_table_plan}
 use Rattle.pdb_keep.specs.Solve.{solve_plan}

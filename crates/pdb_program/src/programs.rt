@@ -10,7 +10,6 @@ ghost use Rattle.pdb_words.specs.CommandLine.{Parses, asked_of};
 ghost use Rattle.pdb_program.specs.Headline.{Headline};
 ghost use Rattle.pdb_program.specs.PartLines.{ArePartLinesTrue};
 ghost use Rattle.pdb_program.specs.Programs.{AskToKeepNothing, EndsFor, RunsOn, TellsFor};
-ghost use Rattle.pdb_program.specs.Steps.{SaysHeadline, SaysParts};
 ghost use Rattle.pdb_program.specs.Refusals.{Refuses};
 
 use crate::hosts::RunHost;
@@ -18,12 +17,12 @@ use crate::refusals::explain;
 use byte_io::shelf::Shelf;
 use byte_io::sinks::Sink;
 use byte_io::sources::Source;
+use pdb_check::{run_log_check, run_replay, run_table};
 use pdb_keep::{run_make_table, run_solve};
 use pdb_parts::run_parts;
 use pdb_prove::run_prove;
 use pdb_request::Request;
 use pdb_run::{BorrowedIo, Io, Status};
-use pdb_verdict::{run_log_check, run_replay, run_table};
 use pdb_words::read_words;
 use std::alloc::Global;
 use std::io::Write;
@@ -75,29 +74,11 @@ pub fn run<H: Threads + Wait + Sync, S: Shelf, R: Source, W: Sink, E: Write, G: 
 {
     let host = RunHost { rt, alloc, gate };
     let mut io = BorrowedIo { shelf, reader, out };
-    run_on(&host, words, &mut io, err)
+    answer(&host, words.as_slice(), &mut io, err).code()
 }
 
-/// The same on any shelf, reader and output.
-pub(crate) fn run_on<H: Threads + Wait + Sync, I: Io, E: Write, G: Gate + Sync>(
-    host: &RunHost<'_, H, G>,
-    words: Vec<String>,
-    io: &mut I,
-    err: &mut E,
-) -> u8
-    ensures same_streams { I.streams io.new ≡ I.streams io.old }
-    ensures headline { let words = map string_bytes words.items in
-        SaysHeadline words (I.world io.old) (I.world io.new) result }
-    ensures part_lines { let words = map string_bytes words.items in
-        SaysParts words (I.world io.old) (I.world io.new) }
-    ensures runs { let words = map string_bytes words.items in let old = I.world io.old in
-        RunsOn words old (I.world io.new) (E.contents err.old) (E.contents err.new) result }
-{
-    answer(host, words.as_slice(), io, err).code()
-}
-
-/// Does what the words ask for.
-fn answer<H: Threads + Wait + Sync, I: Io, E: Write, G: Gate + Sync>(
+/// Does what the words ask for, on any shelf, reader and output.
+pub(crate) fn answer<H: Threads + Wait + Sync, I: Io, E: Write, G: Gate + Sync>(
     host: &RunHost<'_, H, G>,
     words: &[String],
     io: &mut I,

@@ -16,7 +16,7 @@ ghost use Rattle.pdb_program.specs.Programs.{IsNumberOfStatus, RunsOn};
 ghost use Rattle.pdb_program.specs.Refusals.{AppendsWholeOrFront};
 
 use crate::hosts::{ArgumentFault, ProgramCall};
-use crate::programs::run_on;
+use crate::programs::answer;
 use crate::refusals::tell;
 use byte_io::shelf::Shelf;
 use byte_io::sinks::Sink;
@@ -77,7 +77,8 @@ pub fn start<H: Threads + Wait + Sync, S: Shelf, R: Source, W: Sink, E: Write, G
     match arguments {
         Ok(all) => {
             let mut io = BorrowedIo { shelf, reader, out };
-            run_on(&host, words_in(all), &mut io, err)
+            let words = words_in(all);
+            answer(&host, words.as_slice(), &mut io, err).code()
         }
         Err(fault) => without_words(fault, out, err).code(),
     }

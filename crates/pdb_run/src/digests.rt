@@ -28,34 +28,9 @@ pub type Digests = ArrayVec<u8, DIGESTS_LEN>;
 /// Digest lines that were made, or too many of them.
 type MadeDigests = Result<Digests, CapacityError>;
 
-/// The digest lines of files and of a last one, where there is one, and what a check answers beside which they are made: in
-/// threads of their own, at most as many as workers. Where a thread can't be started, its digests are made after the check
-/// or after others. With one worker, or more files than `FILES_BESIDE`, none are made.
-pub fn beside<R: Threads + Sync, G, T, F: FnOnce() -> T>(
-    workers: &Workers<'_, R, G>,
-    files: &[Vec<u8>],
-    last: Option<&[u8]>,
-    check: F,
-) -> (Option<Digests>, T)
-    requires { F.pre check }
-    ensures digests { IfSome result.0
-        (λ digests. digests.items ≡ digests_of (all_files files.now last.entry)) }
-    ensures answer { F.post check result.1 }
-{
-    let (rt, groups) = (workers.rt, workers.count);
-    if groups < 2 || files.len() > FILES_BESIDE {
-        return (None, check());
-    }
-    let digests = || -> MadeDigests
-        ensures { IfOk result
-            (λ digests. digests.items ≡ digests_of (all_files files.entry.now last.entry)) }
-    { digests_in_groups(rt, groups, files, last) };
-    let (digests, answer) = join(rt, digests, check);
-    (digests.ok(), answer)
-}
-
-/// The digest lines of files and of a last one, where there is one, and what a check answers: the lines are made beside the check,
-/// as `beside` makes them, or are still to be made.
+/// The digest lines of files and of a last one, where there is one, and what a check answers. The lines are made beside the check: in
+/// threads of their own, at most as many as workers. Where a thread can't be started, its digests are made after the check or after
+/// others. With one worker, or more files than `FILES_BESIDE`, they are still to be made.
 pub fn digested_beside<'f, R: Threads + Sync, G, T, F: FnOnce() -> T>(
     workers: &Workers<'_, R, G>,
     files: &'f [Vec<u8>],
@@ -67,12 +42,41 @@ pub fn digested_beside<'f, R: Threads + Sync, G, T, F: FnOnce() -> T>(
         digest_lines result.0 ≡ digests_of all }
     ensures answer { F.post check result.1 }
 {
-    let (digests, answer) = beside(workers, files, last, check);
+    let (rt, groups) = (workers.rt, workers.count);
+    if groups < 2 || files.len() > FILES_BESIDE {
+        return (Digested::Files(files, last), check());
+    }
+    let digests = || -> MadeDigests
+        ensures { IfOk result
+            (λ digests. digests.items ≡ digests_of (all_files files.entry.now last.entry)) }
+    { digests_in_groups(rt, groups, files, last) };
+    let (digests, answer) = join(rt, digests, check);
     let digested = match digests {
-        Some(lines) => Digested::Lines(lines),
-        None => Digested::Files(files, last),
+        Ok(lines) => Digested::Lines(lines),
+        Err(_) => Digested::Files(files, last),
     };
     (digested, answer)
+}
+
+/// As `digested_beside`, but where the lines are still to be made, there are none: for files that are not there any more when the
+/// lines are written.
+pub fn beside<R: Threads + Sync, G, T, F: FnOnce() -> T>(
+    workers: &Workers<'_, R, G>,
+    files: &[Vec<u8>],
+    last: Option<&[u8]>,
+    check: F,
+) -> (Option<Digests>, T)
+    requires { F.pre check }
+    ensures digests { IfSome result.0
+        (λ digests. digests.items ≡ digests_of (all_files files.now last.entry)) }
+    ensures answer { F.post check result.1 }
+{
+    let (digested, answer) = digested_beside(workers, files, last, check);
+    let digests = match digested {
+        Digested::Lines(lines) => Some(lines),
+        Digested::Files(..) => None,
+    };
+    (digests, answer)
 }
 
 /// What a check of a file answers, and behind the lines so far the file's digest line: made in a thread of its own beside the

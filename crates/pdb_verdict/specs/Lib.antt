@@ -7,10 +7,9 @@ pub mod Laws
 pub mod Limits
 pub mod Lines
 pub mod Optimal
-pub mod Plans
 pub mod Refusals
 pub mod Replay
 pub mod Table
 pub mod Verdicts
--- What proofs alone need, here and of the commands that make.
+-- What the steps of a check answer, for proofs and for the runs of commands.
 pub mod Steps

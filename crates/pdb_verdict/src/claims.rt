@@ -47,7 +47,7 @@ pub fn begin_claim(claim: LogClaim, text: &[u8]) -> Result<BegunClaim, Fault>
 /// The answer to a claim that has begun so, over a bundle. Or the first refusal that stands: why there is no bundle, the log's, and
 /// then `O1`. Want of memory may be answered in place of all behind the first table's header.
 #[tactic(auto, using(crate::proofs::ClaimLemmas::claim_answered))]
-pub(crate) fn answer_over<H: Threads + Wait, G: Gate + Sync>(
+pub fn answer_over<H: Threads + Wait, G: Gate + Sync>(
     bundle: Result<Bundle<'_>, Fault>,
     start: &BegunClaim,
     log: &[u8],

@@ -22,7 +22,7 @@ pub fn a_text<'a>(name: Option<&'a str>) -> Input<'a>
 }
 
 /// A log file under this name.
-pub(crate) fn a_log<'a>(name: &'a str) -> Input<'a>
+pub fn a_log<'a>(name: &'a str) -> Input<'a>
     ensures { wanted_of result ≡ a_log name.now }
 {
     Input {
@@ -32,7 +32,7 @@ pub(crate) fn a_log<'a>(name: &'a str) -> Input<'a>
 }
 
 /// A table file under this name.
-pub(crate) fn a_table<'a>(name: &'a str) -> Input<'a>
+pub fn a_table<'a>(name: &'a str) -> Input<'a>
     ensures { wanted_of result ≡ a_table name.now }
 {
     Input {

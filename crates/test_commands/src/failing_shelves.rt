@@ -3,11 +3,11 @@
 use crate::same::{holds_for, same, same_for};
 use crate::telling::io_over;
 use byte_io::memory::MemShelf;
+use pdb_check::{run_log_check, run_replay, run_table};
 use pdb_keep::{run_make_table, run_solve};
 use pdb_prove::run_prove;
 use pdb_request::{LogCheck, LogClaim, MakeTable, Prove, Replay, Solve, TableCheck};
 use pdb_run::{Io, Status};
-use pdb_verdict::{run_log_check, run_replay, run_table};
 use std::alloc::{AllocError, AllocGlobal, Global};
 use std::process::Abort;
 use std::sync::Wait;

@@ -5,11 +5,10 @@ use crate::same::{same, same_bytes};
 use crate::sha256;
 use crate::telling::{expect_tells, io_over, joined};
 use byte_io::memory::MemShelf;
+use pdb_check::run_replay;
 use pdb_request::Replay;
 use pdb_run::Status;
-use pdb_verdict::{
-    Fault, Inputs, Verdict, digests, line, report, run_replay, verify, verify_puzzle,
-};
+use pdb_verdict::{Fault, Inputs, Verdict, digests, line, report, verify, verify_puzzle};
 use std::alloc::AllocGlobal;
 use std::io;
 use std::process::Abort;

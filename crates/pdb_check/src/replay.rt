@@ -3,13 +3,11 @@
 ghost use Rattle.std.specs.Prelude.{◌≡◌};
 ghost use Rattle.pdb_request.specs.Asked.{replay_shown};
 ghost use Rattle.pdb_run.specs.Runs.{Ends};
-ghost use Rattle.pdb_verdict.specs.Plans.{replay_plan};
+ghost use Rattle.pdb_check.specs.Plans.{replay_plan};
 
-use crate::limits::a_text;
-use crate::replay::verify_puzzle;
-use crate::reports::told;
 use pdb_request::Replay;
 use pdb_run::{Command, Digested, Input, Io, Status, conclude, read_inputs};
+use pdb_verdict::{a_text, told, verify_puzzle};
 use std::alloc::{AllocError, Global};
 
 /// A replay, as a command.

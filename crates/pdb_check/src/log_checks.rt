@@ -5,17 +5,16 @@ ghost use Rattle.pdb_request.specs.Asked.{log_check_shown};
 ghost use Rattle.pdb_run.specs.Answers.{IsAnswerBy, all_bytes};
 ghost use Rattle.pdb_run.specs.Runs.{Ends};
 ghost use Rattle.pdb_verdict.specs.Inputs.{files_in_order};
-ghost use Rattle.pdb_verdict.specs.Plans.{log_check_plan};
 ghost use Rattle.pdb_verdict.specs.Steps.{IsAnswerOver, claim_read};
 ghost use Rattle.pdb_verdict.specs.Verdicts.{TakesMemory, TellsResult};
+ghost use Rattle.pdb_check.specs.Plans.{log_check_plan};
 
-use crate::claims::{answer_over, begin_claim};
-use crate::limits::{a_log, a_text, with_tables};
-use crate::reports::told_or_memory;
-use crate::tables::{TableFiles, given_up, over_tables};
-use crate::verdicts::{Fault, Verdict};
 use pdb_request::LogCheck;
 use pdb_run::{Command, CommandAnswer, Input, Io, Status, conclude, digested_beside, read_inputs};
+use pdb_verdict::{
+    Fault, TableFiles, Verdict, a_log, a_text, answer_over, begin_claim, given_up, over_tables,
+    told_or_memory, with_tables,
+};
 use set_sum::Bundle;
 use std::alloc::{AllocError, Global};
 use std::sync::Wait;

@@ -1,7 +1,7 @@
 use Rattle.std.proofs.Common.{[], refl}
 use Rattle.pdb_run.specs.Answers.{all_bytes}
-use Rattle.pdb_verdict.proofs.CheckLemmas.{only_input}
-use Rattle.pdb_verdict.proofs.replay_command.run_replay.Goals as goal
+use Rattle.pdb_check.proofs.CheckLemmas.{only_input}
+use Rattle.pdb_check.proofs.replay.run_replay.Goals as goal
 
 -- a run of replay ends as its plan says, with the verdict on the puzzle text
 pub returns-clause-ends : goal.returns-clause-ends

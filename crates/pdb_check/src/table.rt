@@ -4,15 +4,12 @@ ghost use Rattle.std.specs.Prelude.{◌≡◌};
 ghost use Rattle.pdb_request.specs.Asked.{table_check_shown};
 ghost use Rattle.pdb_run.specs.Runs.{Ends};
 ghost use Rattle.pdb_verdict.specs.Inputs.{table_file};
-ghost use Rattle.pdb_verdict.specs.Plans.{table_plan};
 ghost use Rattle.pdb_verdict.specs.Verdicts.{IsAnswerTo};
+ghost use Rattle.pdb_check.specs.Plans.{table_plan};
 
-use crate::limits::a_table;
-use crate::reports::told_or_memory;
-use crate::table::verify_table;
-use crate::verdicts::{Fault, Verdict};
 use pdb_request::TableCheck;
 use pdb_run::{Command, Input, Io, Status, conclude, digested_beside, read_inputs};
+use pdb_verdict::{Fault, Verdict, a_table, told_or_memory, verify_table};
 use std::alloc::{AllocError, Global};
 use std::sync::Wait;
 use std::thread::Threads;

@@ -3,10 +3,10 @@ use Rattle.pdb_request.specs.Asked.{log_check_shown}
 use Rattle.pdb_request.specs.declared.requests.LogClaim.{LogClaim}
 use Rattle.pdb_run.specs.Answers.{all_bytes}
 use Rattle.pdb_verdict.specs.Inputs.{log_claim}
-use Rattle.pdb_verdict.specs.Plans.{log_given}
 use Rattle.pdb_verdict.specs.Steps.{files_read}
-use Rattle.pdb_verdict.proofs.CheckLemmas.{check_answered}
-use Rattle.pdb_verdict.proofs.log_command.run_log_check.Goals as goal
+use Rattle.pdb_check.specs.Plans.{log_given}
+use Rattle.pdb_check.proofs.CheckLemmas.{check_answered}
+use Rattle.pdb_check.proofs.log_checks.run_log_check.Goals as goal
 
 -- a run that checks a log ends as its plan says, with the answer to its inputs
 pub returns-clause-ends : goal.returns-clause-ends

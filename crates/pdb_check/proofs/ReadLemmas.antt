@@ -7,7 +7,7 @@ use Rattle.pdb_run.specs.Commands.{Wanted}
 use Rattle.pdb_run.specs.Inputs.{AreRead, IsReadFrom}
 use Rattle.pdb_verdict.specs.Inputs.{LogFiles, files_in_order, puzzle_text, table_file}
 use Rattle.pdb_verdict.specs.Limits.{a_table}
-use Rattle.pdb_verdict.specs.Plans.{log_check_inputs, log_given, replay_inputs, table_inputs}
+use Rattle.pdb_check.specs.Plans.{log_check_inputs, log_given, replay_inputs, table_inputs}
 
 -- a file under this name of this many bytes at most
 abbrev pub of_limit : ℕ → Bytes → Wanted

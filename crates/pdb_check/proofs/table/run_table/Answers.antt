@@ -1,8 +1,8 @@
 use Rattle.std.proofs.Common.{[], ◌∷◌, refl}
 use Rattle.pdb_run.specs.Answers.{all_bytes}
 use Rattle.pdb_verdict.specs.Inputs.{table_file}
-use Rattle.pdb_verdict.proofs.CheckLemmas.{check_answered, only_input, result_told}
-use Rattle.pdb_verdict.proofs.table_command.run_table.Goals as goal
+use Rattle.pdb_check.proofs.CheckLemmas.{check_answered, only_input, result_told}
+use Rattle.pdb_check.proofs.table.run_table.Goals as goal
 
 -- a run that checks a table ends as its plan says, with the answer to the table file
 pub returns-clause-ends : goal.returns-clause-ends

@@ -5,13 +5,13 @@ use Rattle.byte_io.specs.Shelf.{Bytes}
 use Rattle.pdb_run.specs.Answers.{IsAnswerBy, IsReplyOf, all_bytes}
 use Rattle.pdb_run.specs.declared.answers.CommandAnswer.{CommandAnswer}
 use Rattle.pdb_verdict.specs.Inputs.{Given, files_in_order}
-use Rattle.pdb_verdict.specs.Plans.{CheckTakesMemory, IsCheckReply}
 use Rattle.pdb_verdict.specs.Lines.{reply_to}
 use Rattle.pdb_verdict.specs.Verdicts.{IsAnswerTo, IsResult, TakesMemory, TellsResult}
 use Rattle.pdb_verdict.specs.declared.verdicts.Fault.{Fault}
 use Rattle.pdb_verdict.specs.declared.verdicts.Fault.TheVariants.{Memory}
 use Rattle.pdb_verdict.specs.declared.verdicts.Verdict.{Verdict}
 use Rattle.pdb_verdict.proofs.RefusalLemmas.{found_settled}
+use Rattle.pdb_check.specs.Plans.{CheckTakesMemory, IsCheckReply}
 
 -- what is told of an answer to inputs tells the result, or memory is wanted, where it is taken
 pub result_told : (inputs : Given) (answer : Result Verdict Fault) (told : Result CommandAnswer AllocError) → IsAnswerTo inputs answer

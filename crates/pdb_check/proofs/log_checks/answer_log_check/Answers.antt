@@ -1,9 +1,9 @@
 use Rattle.std.proofs.Common.{◌≡◌, Err, rules}
 use Rattle.pdb_verdict.specs.Lines.{digested_of}
 use Rattle.pdb_verdict.specs.Steps.{claim_read, files_read}
-use Rattle.pdb_verdict.proofs.CheckLemmas.{result_told}
 use Rattle.pdb_verdict.proofs.ClaimLemmas.{claim_refused}
-use Rattle.pdb_verdict.proofs.log_command.answer_log_check.Goals as goal
+use Rattle.pdb_check.proofs.CheckLemmas.{result_told}
+use Rattle.pdb_check.proofs.log_checks.answer_log_check.Goals as goal
 
 -- where the text of a claim is refused, this is answered with the digests, before the tables
 pub returns-in-Err : goal.returns-in-Err

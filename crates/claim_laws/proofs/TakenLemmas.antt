@@ -14,15 +14,15 @@ use Rattle.pdb_run.proofs.AnswerLemmas.{IsAnswered-ends}
 use Rattle.pdb_verdict.specs.Inputs.{Given, LogFiles, log_claim, log_files}
 use Rattle.pdb_verdict.specs.Limits.{a_table}
 use Rattle.pdb_verdict.specs.Lines.{reply_to}
-use Rattle.pdb_verdict.specs.Plans.{log_check_inputs, log_check_plan, log_given}
 use Rattle.pdb_verdict.specs.Verdicts.{IsResult, TellsResult}
 use Rattle.pdb_verdict.specs.declared.verdicts.Verdict.TheVariants as verdict
-use Rattle.pdb_verdict.proofs.ReadLemmas.{LogStood, log_stood}
 use Rattle.pdb_verdict.proofs.VerdictLemmas.{IsResult-one}
+use Rattle.pdb_check.specs.Plans.{log_check_inputs, log_check_plan, log_given}
+use Rattle.pdb_check.proofs.ReadLemmas.{LogStood, log_stood}
 use Rattle.pdb_keep.specs.Kept.{IsLogKept}
-use Rattle.pdb_keep.specs.Laws.{IsOfSearch, IsTaken, KeptLogsAreTaken}
 use Rattle.pdb_keep.specs.Solve.{solve_inputs}
 use Rattle.pdb_keep.proofs.KeptLemmas.{file-kept, log_kept, search_stood}
+use Rattle.claim_laws.specs.KeptLogs.{IsOfSearch, IsTaken, KeptLogsAreTaken}
 
 module _ (before : Files) (out log : Bytes) where
   -- under another name stands what stood

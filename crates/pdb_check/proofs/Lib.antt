@@ -1,0 +1,2 @@
+mod CheckLemmas
+pub mod ReadLemmas

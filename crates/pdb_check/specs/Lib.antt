@@ -1,0 +1,2 @@
+-- What public contracts say.
+pub mod Plans
