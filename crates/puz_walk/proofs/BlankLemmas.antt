@@ -44,28 +44,31 @@ module _ (v : ShownBundle) (move : Move) (b next : List ℕ) (to : ℕ) (slides 
     pub tile_is : slice_index spot.numbers to ≡ at b to
     tile_is = sym (get_or-take (n * n) spot.numbers to 0 to_below) ∙ ap (λ xs. at xs to) is.numbers
 
+    -- the number that is read in the cell to which the blank moves is the tile there
+    pub tile_read : (place : ℕ) → place ≡ to → slice_index spot.numbers place ≡ at b to
+    tile_read place place_is = ap (slice_index spot.numbers) place_is ∙ tile_is
+
     -- the move of the tile
-    pub step_is : (place : ℕ) → place ≡ to → IsStepOf n move b next (slice_index spot.numbers place) spot.blank to
-    step_is place place_is = record {
+    pub step_is : (tile : ℕ) → tile ≡ at b to → IsStepOf n move b next tile spot.blank to
+    step_is tile is_tile = record {
       board = slides.board;
       leads = slides.leads;
-      tile_is = ap (slice_index spot.numbers) place_is ∙ tile_is ∙ ap (at b) slides.to_is;
+      tile_is = is_tile ∙ ap (at b) slides.to_is;
       from_is = is.blank_is;
       to_is = slides.to_is;
     }
 
     -- the numbers after it
-    pub numbers_next : (place from there : ℕ) → place ≡ to → from ≡ spot.blank → there ≡ to
-        → take (n * n) (slice_set (slice_set spot.numbers from (slice_index spot.numbers place)) there 0) ≡ next
+    pub numbers_next : (tile from there : ℕ) → tile ≡ at b to → from ≡ spot.blank → there ≡ to
+        → take (n * n) (slice_set (slice_set spot.numbers from tile) there 0) ≡ next
     unfolding slid
-    numbers_next place from there place_is from_is there_is =
-        let tile : ℕ = slice_index spot.numbers place in
+    numbers_next tile from there is_tile from_is there_is =
         let inside : there < n * n = subst (λ k. k < n * n) (sym there_is) to_below in
         let home : from < n * n = subst (λ k. k < n * n) (sym (from_is ∙ is.blank_is)) (blank_below n b slides.board) in
         take-set-lt (n * n) (slice_set spot.numbers from tile) there 0 inside ∙
         ap (λ xs. slice_set xs there 0) (take-set-lt (n * n) spot.numbers from tile home) ∙
         ap (λ xs. slice_set (slice_set xs from tile) there 0) is.numbers ∙
         ap (λ k. slice_set (slice_set b k tile) there 0) (from_is ∙ is.blank_is) ∙
-        ap (λ t. slice_set (slice_set b (blank b) t) there 0) (ap (slice_index spot.numbers) place_is ∙ tile_is ∙ ap (at b) to_cell) ∙
+        ap (λ t. slice_set (slice_set b (blank b) t) there 0) (is_tile ∙ ap (at b) to_cell) ∙
         ap (λ k. slice_set (slice_set b (blank b) (at b slide.cell)) k 0) (there_is ∙ to_cell) ∙
         slide.is

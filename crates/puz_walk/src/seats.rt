@@ -5,10 +5,9 @@ ghost use Rattle.edge_words.specs.Indexes.{index_count, most_words};
 ghost use Rattle.edge_words.specs.Spots.{IsIndexStep};
 ghost use Rattle.edge_words.specs.Words.{bit_number};
 ghost use Rattle.set_sum.specs.Parts.{part_pattern};
-ghost use Rattle.puz_walk.specs.Seats.{AreSeatsOf, IsSeatFor, IsSeatOf, seat_place};
+ghost use Rattle.puz_walk.specs.Seats.{AreSeatsOf, IsSeatFor, IsSeatOf, IsVacant, seat_place};
 ghost use Rattle.puz_walk.specs.StoredWords.{IsOwner, move_for};
 ghost use Rattle.puz_walk.specs.Outlines.{CanHaveWords};
-ghost use Rattle.puz_walk.specs.WordBundles.{most_worded};
 
 use crate::owners::{Owner, move_for, owner_of};
 use crate::ways::way_of;
@@ -32,6 +31,8 @@ pub(crate) struct Seat {
     pub(crate) place: u8,
     /// The bit of a word that says whether the move raises the count.
     pub(crate) bit: u8,
+    /// How many members of the set have the tile: 1, or 0.
+    pub(crate) owners: u8,
     /// What the move adds to the index, modulo 2^32.
     pub(crate) step: u32,
 }
@@ -88,6 +89,7 @@ fn owned_seat(bundle: &Bundle<'_>, set: u8, owner: Owner, mv: Move) -> Seat
         table: owner.member.table,
         place: member_place(set, owner.member) as u8,
         bit: bit_for(owner, mv),
+        owners: 1,
         step: step_for(bundle.part(owner.member.table), owner, mv),
     }
 }
@@ -111,12 +113,13 @@ fn step_for(part: &Part<'_>, owner: Owner, mv: Move) -> u32
 
 /// The seat of a tile that no member of a set has.
 fn vacant() -> Seat
-    ensures { most_worded ≤ result.table }
+    ensures { IsVacant result }
 {
     Seat {
         table: NO_TABLE,
         place: 0,
         bit: 0,
+        owners: 0,
         step: 0,
     }
 }
