@@ -11,15 +11,17 @@ use Rattle.puz_board.proofs.MovedLemmas.{moved-reverse_of}
 use Rattle.edge_words.specs.Spots.{IsStepOf}
 use Rattle.set_sum.specs.Bundles.{ShownBundle, IsBundle}
 use Rattle.puz_walk.specs.Cuts.{AreBelow, GoesBeyond, margin_of}
-use Rattle.puz_walk.specs.Starts.{AreSumsOn}
+use Rattle.puz_walk.specs.Pasts.{AreHeld, IsPastOf}
 use Rattle.puz_walk.specs.StoredWordWalks.{IsStoredWordWalk, word_walk_shown}
 use Rattle.puz_walk.specs.Walks.{IsCutOff, IsOpen, LeadsNowhere, ShownWalk}
 use Rattle.puz_walk.specs.WordSpots.{IsSlideTo, IsSpotOf}
 use Rattle.puz_walk.specs.WordSteps.{IsWordStepFrom}
+use Rattle.puz_walk.specs.declared.pasts.Held.{Held}
+use Rattle.puz_walk.specs.declared.pasts.Past.{Past}
 use Rattle.puz_walk.specs.declared.word_spots.Spot.{Spot}
 use Rattle.puz_walk.specs.declared.word_walks.WordStep.{WordStep}
 use Rattle.puz_walk.specs.declared.word_walks.WordWalk.TheInside.{Inside}
-use Rattle.puz_walk.proofs.BlankLemmas.{step_is, tile_read}
+use Rattle.puz_walk.proofs.BlankLemmas.{step_is, tile_moved, tile_read}
 use Rattle.puz_walk.proofs.MarginLemmas.{margin_some, margin_still, parity_flips}
 use Rattle.puz_walk.proofs.OpenLemmas.{below_from, cut_from, open_from}
 use Rattle.puz_walk.proofs.StartLemmas.{sums_from}
@@ -127,18 +129,29 @@ module _ (w : Inside) (kept : IsStoredWordWalk w) where
           (λ set there. let l = low set (slice_index spot.sums set) (at.kept.each set there).says in let some = some_moves in
           let fits = margin_fits in omega arith)
 
-      -- a move from a walk by edge words is a step that keeps the blank's cell, the move and the sums
-      pub step_next : w.bound < 2 ^ 8 → (spot : Spot) → IsSpotOf v (slid board to) spot
+      -- the sums of a walk by edge words and what is held before a move are what a step keeps of the board
+      pub past_here : (place : ℕ) → place ≡ to → (held : List Held) → AreHeld v board (slice_index w.spot.numbers place) held
+          → IsPastOf v board (at board to) (record { sums = w.spot.sums; held = held })
+      past_here place place_is held are = record {
+        sums = sums_from v board w.spot.sums kept.spot.kept.room.sums_room (λ set low. (kept.spot.kept.each set low).says);
+        held = subst (λ tile. AreHeld v board tile held) (tile_here place place_is) are;
+      }
+
+      -- a move from a walk by edge words is a step that keeps the blank's cell, the move and what was kept of the board
+      pub step_next : w.bound < 2 ^ 8 → (spot : Spot) → IsSpotOf v (slid board to) spot → (past : Past) → IsPastOf v board (at board to) past
           → IsWordStepFrom (word_walk_shown w) (word_walk_shown (record { bundle = w.bundle; spot = spot; bound = w.bound - 1; margin = w.margin }))
-          (record { from = w.spot.blank; mv = move; sums = w.spot.sums })
-      step_next small spot at = record {
+          (record { from = w.spot.blank; mv = move; past = past })
+      unfolding slides
+      step_next small spot stands past is_past = record {
         is_open = walk_open;
         bundle = refl;
-        leads = leads ∙ ap Some (sym at.numbers);
+        leads = leads ∙ ap Some (sym stands.numbers);
         less = (let some = some_moves in omega arith);
         fits = small;
         from = kept.spot.blank_is;
-        sums = sums_from v board w.spot.sums kept.spot.kept.room.sums_room (λ set low. (kept.spot.kept.each set low).says);
+        past = subst (λ x. IsPastOf v board (at x w.spot.blank) past) (sym stands.numbers)
+            (subst (λ tile. IsPastOf v board tile past)
+            (sym (ap (at (slid board to)) kept.spot.blank_is ∙ tile_moved v move board (slid board to) to slides)) is_past);
       }
 
   -- ---- a step taken back
@@ -158,9 +171,10 @@ module _ (w : Inside) (kept : IsStoredWordWalk w) where
       to_is = from.from;
     }
 
-    -- the sums that a word step has kept are those of the board before
-    pub sums_before : AreSumsOn v before.board step.sums
-    sums_before = subst (λ u. AreSumsOn u before.board step.sums) bundle_is from.sums
+    -- what a word step has kept is of the board before, and of the tile that moves back
+    pub past_before : (tile : ℕ) → tile ≡ at board step.from → IsPastOf v before.board tile step.past
+    past_before tile is =
+        subst (λ u. IsPastOf u before.board tile step.past) bundle_is (subst (λ t. IsPastOf before.bundle before.board t step.past) (sym is) from.past)
 
     -- the bound of a walk by edge words, with the step's one move given back, fits into a byte
     pub bound_fits : w.bound + 1 < 2 ^ 8

@@ -51,7 +51,7 @@ pub(crate) fn all_seats(bundle: &Bundle<'_>) -> [Seat; MOST_SEATS]
     ensures { AreSeatsOf bundle.now result }
 {
     let cells = bundle.side().cells();
-    let mut seats = [vacant(); MOST_SEATS];
+    let mut seats = [vacant(0); MOST_SEATS];
     for place in 0..128 * u16::from(bundle.sets()) {
         let tile = (place / 4 % 32) as u8;
         if tile < cells {
@@ -73,7 +73,7 @@ fn seat_of(bundle: &Bundle<'_>, set: u8, tile: u8, mv: Move) -> Seat
     let _sets = bundle.sets();
     match owner_of(bundle, set, tile) {
         Some(owner) => owned_seat(bundle, set, owner, mv),
-        None => vacant(),
+        None => vacant(set),
     }
 }
 
@@ -111,13 +111,14 @@ fn step_for(part: &Part<'_>, owner: Owner, mv: Move) -> u32
     index_step(&part.pattern(), owner.tile, move_for(owner.member, mv))
 }
 
-/// The seat of a tile that no member of a set has.
-fn vacant() -> Seat
-    ensures { IsVacant result }
+/// The seat of a tile that no member of a set has. Its place is one of the set, so that what is put back there is.
+fn vacant(set: u8) -> Seat
+    requires { set < 16 }
+    ensures { IsVacant set result }
 {
     Seat {
         table: NO_TABLE,
-        place: 0,
+        place: 16 * set,
         bit: 0,
         owners: 0,
         step: 0,

@@ -68,6 +68,7 @@ impl<'a> WordBundle<'a> {
         ensures sets { result ≡ length self.now.sets }
         ensures bundle { IsBundle self.now }
         ensures few { length self.now.tables ≤ most_worded }
+        ensures words { (words : List ShownWords) × HaveWords self.now words }
     {
         self.outline.sets()
     }
@@ -83,7 +84,7 @@ impl<'a> WordBundle<'a> {
 
     /// The seat of a tile in a set for a move.
     #[inline(always)]
-    fn seat(&self, set: u8, tile: u8, mv: Move) -> Seat
+    pub(crate) fn seat(&self, set: u8, tile: u8, mv: Move) -> Seat
         requires set { set < length self.now.sets }
         requires tile { tile < self.now.side * self.now.side }
         ensures seat { IsSeatOf self.now set tile mv result }

@@ -1,14 +1,16 @@
 //! Where a walk stands: the board, and for each set its sum, and the indexes and words of its members.
 
-ghost use Rattle.std.specs.Prelude.{◌≡◌, ◌*◌, ◌+◌, ◌<◌, if◌then◌else◌, ℕ, IfNone, IfSome, List, length, slice_index, take};
+ghost use Rattle.std.specs.Prelude.{◌≡◌, ◌*◌, ◌+◌, ◌<◌, if◌then◌else◌, ℕ, IfNone, IfSome, List, length, slice_index, slice_set, take};
 ghost use Rattle.puz_board.specs.Boards.{IsBoardOf, at, side_of};
 ghost use Rattle.set_sum.specs.Bundles.{IsBundle};
 ghost use Rattle.edge_words.specs.Spots.{IsStepOf};
 ghost use Rattle.puz_walk.specs.Cuts.{AreBelow, GoesBeyond};
+ghost use Rattle.puz_walk.specs.Pasts.{IsPastOf};
 ghost use Rattle.puz_walk.specs.Starts.{AreSumsOn};
 ghost use Rattle.puz_walk.specs.WordBundles.{pattern_at};
 ghost use Rattle.puz_walk.specs.WordSpots.{AreAllKept, AreKept, AreKeptOf, HasPlaces, IsFoundOn, IsSlideTo, IsSpotOf, member_place};
 
+use crate::pasts::{Past, put_back};
 use crate::word_bundles::WordBundle;
 use puz_board::{Board, Move};
 use set_sum::{MOST_SETS, Member};
@@ -109,12 +111,48 @@ pub(crate) fn move_blank(
 {
     // Asked only for what its contract says.
     let _sets = bundle.sets();
-    let from = spot.blank;
-    spot.numbers[usize::from(from)] = slide.tile;
-    spot.numbers[usize::from(slide.to)] = 0;
+    exchange(&mut spot.numbers, spot.blank, slide);
     spot.blank = slide.to;
     spot.sums = sums;
     follow_sets(bundle, &mut spot.kept, slide, sets);
+}
+
+/// Moves the blank back, and the tile into its cell. It is given what a step has kept of the board that it came from, and how
+/// many sets there are.
+#[inline(always)]
+pub(crate) fn move_back(
+    bundle: &WordBundle<'_>,
+    spot: &mut Spot,
+    slide: Slide,
+    past: &Past,
+    sets: u8,
+)
+    requires sets { sets ≡ length bundle.now.sets }
+    requires slides { (b : List ℕ) × (next : List ℕ) × IsSlideTo bundle.now slide.mv b next slide.to
+        × (slide.tile ≡ at b slide.to) × IsSpotOf bundle.now b spot.old
+        × IsPastOf bundle.now next slide.tile past.now }
+    ensures { (b next : List ℕ) → IsSlideTo bundle.now slide.mv b next slide.to
+        → slide.tile ≡ at b slide.to → IsSpotOf bundle.now b spot.old
+        → IsPastOf bundle.now next slide.tile past.now → IsSpotOf bundle.now next spot.new }
+{
+    // Asked only for what its contract says.
+    let _sets = bundle.sets();
+    exchange(&mut spot.numbers, spot.blank, slide);
+    spot.blank = slide.to;
+    spot.sums = past.sums;
+    put_back(bundle, &mut spot.kept, &past.held, slide, sets);
+}
+
+/// The numbers after a move of a tile into the blank's cell.
+#[inline(always)]
+fn exchange(numbers: &mut [u8; 25], blank: u8, slide: Slide)
+    requires blank { blank < 25 }
+    requires to { slide.to < 25 }
+    requires room { length numbers.old ≡ 25 }
+    ensures { numbers.new ≡ slice_set (slice_set numbers.old blank slide.tile) slide.to 0 }
+{
+    numbers[usize::from(blank)] = slide.tile;
+    numbers[usize::from(slide.to)] = 0;
 }
 
 /// What is kept of the members of all sets after a move of a tile. It is given how many sets there are.

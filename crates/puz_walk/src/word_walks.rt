@@ -7,9 +7,10 @@ ghost use Rattle.puz_walk.specs.Walks.{IsClosed, LeadsNowhere, ShownWalk};
 ghost use Rattle.puz_walk.specs.WordSteps.{IsWordStepFrom};
 
 use crate::cuts::margin_of;
+use crate::pasts::{Past, held_of};
 use crate::walks::Walk;
 use crate::word_bundles::WordBundle;
-use crate::word_spots::{Slide, Spot, judge, move_blank, spot_of};
+use crate::word_spots::{Slide, Spot, judge, move_back, move_blank, spot_of};
 use puz_board::{Board, Move};
 use set_sum::MOST_SETS;
 use std::marker::Model;
@@ -37,12 +38,12 @@ impl<'a> Model for WordWalk<'a> {
     ghost invariant = { IsStoredWordWalk };
 }
 
-/// A step of a walk, by which it is taken back: where the blank was, how it went, and the sums before.
+/// A step of a walk, by which it is taken back: where the blank was, how it went, and what was kept before.
 #[derive(Clone, Copy)]
 pub struct WordStep {
     from: u8,
     mv: Move,
-    sums: [u8; MOST_SETS],
+    past: Past,
 }
 
 impl<'a> WordWalk<'a> {
@@ -91,14 +92,13 @@ impl<'a> WordWalk<'a> {
         let tile = self.spot.numbers[usize::from(to)];
         let slide = Slide { mv, tile, to };
         let sums = judge(bundle, &self.spot, slide, self.bound - self.margin, sets)?;
-        let step = WordStep {
-            from,
-            mv,
+        let past = Past {
             sums: self.spot.sums,
+            held: held_of(bundle, &self.spot.kept, slide, sets),
         };
         move_blank(bundle, &mut self.spot, slide, sums, sets);
         self.bound -= 1;
-        Some(step)
+        Some(WordStep { from, mv, past })
     }
 
     /// Takes a step back, as a walk does. It is given how many sets there are.
@@ -115,7 +115,7 @@ impl<'a> WordWalk<'a> {
             tile,
             to,
         };
-        move_blank(self.bundle, &mut self.spot, slide, step.sums, sets);
+        move_back(self.bundle, &mut self.spot, slide, &step.past, sets);
         self.bound += 1;
     }
 }

@@ -1,19 +1,23 @@
-use Rattle.std.proofs.Common.{◌<◌, length-set, sym, ◌∙◌, subst}
+use Rattle.std.proofs.Common.{◌*◌, length, length-set, take, ◌∙◌, ap}
 use Rattle.puz_walk.proofs.BlankLemmas.{from_room, next_is, numbers_next, step_is, to_room}
 use Rattle.puz_walk.proofs.StartLemmas.{sum_said}
 use Rattle.puz_walk.proofs.word_spots.move_blank.Goals as goal
 
--- the tile is written to the blank's old cell within the 25 of a spot
-pub bounds-spot-from : goal.bounds-spot-from
-bounds-spot-from c =
+-- the blank's old cell is one of the 25 of a spot
+pub exchange-requires-clause-blank : goal.exchange-requires-clause-blank
+exchange-requires-clause-blank c =
     let moves = c.requires.slides in
-    subst (λ k. k < 25) (sym c.from.ensures) (from_room c.args.bundle.now c.args.slide.mv moves.0 moves.1 c.args.slide.to moves.2 c.args.spot.now moves.4)
+    from_room c.args.bundle.now c.args.slide.mv moves.0 moves.1 c.args.slide.to moves.2 c.args.spot.now moves.4
 
--- the blank is written to its new cell within the 25 of a spot
-pub bounds-spot-from-2 : goal.bounds-spot-from-2
-bounds-spot-from-2 c =
+-- and so is its new cell
+pub exchange-requires-clause-to : goal.exchange-requires-clause-to
+exchange-requires-clause-to c =
     let moves = c.requires.slides in
-    subst (λ k. k < 25) (sym c.from-2.ensures) (to_room c.args.bundle.now c.args.slide.mv moves.0 moves.1 c.args.slide.to moves.2)
+    to_room c.args.bundle.now c.args.slide.mv moves.0 moves.1 c.args.slide.to moves.2
+
+-- a spot has room for 25 numbers
+pub exchange-requires-clause-room : goal.exchange-requires-clause-room
+exchange-requires-clause-room c = c.requires.slides.4.space
 
 -- the members that are to follow the blank's move still look up the board before it
 pub follow_sets-requires-clause-step : goal.follow_sets-requires-clause-step
@@ -39,8 +43,8 @@ returns c b next slides tile is sums =
     let said = sum_said v next c.args.sums c.sets-sets.ensures.bundle good sums in
     record {
       board = good;
-      space = length-set _ _ _ ∙ length-set _ _ _ ∙ is.space;
-      numbers = numbers_next v slide.mv b next slide.to slides spot is slide.tile c.from.result c.from-2.result tile c.from.ensures c.from-2.ensures;
+      space = ap length c.exchange.ensures ∙ length-set _ _ _ ∙ length-set _ _ _ ∙ is.space;
+      numbers = ap (take (v.side * v.side)) c.exchange.ensures ∙ numbers_next v slide.mv b next slide.to slides spot is slide.tile tile;
       blank_is = slides.to_is;
       kept = record {
         room = record { sums_room = sums.room; places = c.follow_sets.ensures.room };

@@ -5,7 +5,8 @@ use Rattle.puz_walk.specs.StoredWordWalks.{word_walk_shown}
 use Rattle.puz_walk.specs.Walks.{LeadsNowhere}
 use Rattle.puz_walk.specs.WordSteps.{IsWordStepFrom}
 use Rattle.puz_walk.proofs.BlankLemmas.{to_room}
-use Rattle.puz_walk.proofs.WordWalkLemmas.{beyond_nowhere, blank_low, board, leads, margin_fits, none_nowhere, slides, some_moves}
+use Rattle.puz_walk.proofs.OwnerLemmas.{tile_below}
+use Rattle.puz_walk.proofs.WordWalkLemmas.{beyond_nowhere, blank_low, board, leads, margin_fits, none_nowhere, past_here, slides, some_moves}
 use Rattle.puz_walk.proofs.WordWalkLemmas.{step_here, step_next, stored_next, sums_small, tile_here}
 use Rattle.puz_walk.proofs.word_walks.WordWalk.enter_by.Goals as goal
 
@@ -61,6 +62,15 @@ returns-in_err-sums-clause-none c =
     none_so _ (refl, subst (λ w. LeadsNowhere w c.args.mv) c.self.view_is (beyond_nowhere s c.self.invariant c.args.mv to c.in_ok-to.ensures goes))
     c.from_residual-in_err-sums.result
 
+-- on entering, the tile of which it is held what its move changes is one of the board
+pub held_of-requires-clause-tile : goal.held_of-requires-clause-tile
+held_of-requires-clause-tile c =
+    let s = c.self.inside in
+    let to = c.in_ok-to.to in
+    let b = board s c.self.invariant in
+    tile_below s.bundle.now.side c.args.mv b (slid b to) _ s.spot.blank to
+    (step_here s c.self.invariant c.args.mv to c.in_ok-to.ensures c.from.result c.from.ensures)
+
 -- on entering, the blank may move from the spot of the board, to one with the sums that were found
 pub move_blank-requires-clause-slides : goal.move_blank-requires-clause-slides
 move_blank-requires-clause-slides c =
@@ -112,6 +122,8 @@ returns-clause-some c =
         spot = c.move_blank.new.spot;
         bound = s.bound - 1;
         margin = s.margin;
-      })) (record { from = s.spot.blank; mv = c.args.mv; sums = s.spot.sums })) c.self.view_is
-          (step_next s c.self.invariant c.args.mv to c.in_ok-to.ensures small c.move_blank.new.spot there),
+      })) (record { from = s.spot.blank; mv = c.args.mv; past = record { sums = s.spot.sums; held = c.held_of.result } })) c.self.view_is
+          (step_next s c.self.invariant c.args.mv to c.in_ok-to.ensures small c.move_blank.new.spot there _
+          (past_here s c.self.invariant c.args.mv to c.in_ok-to.ensures c.from.result c.from.ensures c.held_of.result
+          (c.held_of.ensures b (λ set low. (c.self.invariant.spot.kept.each set low).are)))),
     )
