@@ -1,5 +1,6 @@
 mod BlankLemmas
 mod ExchangeLemmas
+mod HeldLemmas
 mod JudgeLemmas
 mod MarginLemmas
 mod MoveLemmas

@@ -188,7 +188,7 @@ module _ (v : ShownBundle) (bundle : IsBundle v) (words : List ShownWords) (have
     }
 
     -- a member that hasn't the tile looks up the same index and the same word after the move
-    found_still : (number : ℕ) (m : Member) → slice_get (set_of v set) number ≡ Some m → has (table_pattern v.tables m) (cell_for v.side m tile) ≡ false
+    pub found_still : (number : ℕ) (m : Member) → slice_get (set_of v set) number ≡ Some m → has (table_pattern v.tables m) (cell_for v.side m tile) ≡ false
         → (index word : ℕ) → IsFoundOn (pattern_at v m.table) (board_for m b) index word → IsFoundOn (pattern_at v m.table) (board_for m next) index word
     found_still number m is none index word found = record {
       index_is = found.index_is ∙ sym (member_index_still v.side move b next tile from to step v.tables m (pat number m is) none);

@@ -1,7 +1,7 @@
 -- A walk by edge words: where it goes on, and its steps taken back.
 use Rattle.std.proofs.Common.{◌≡◌, ℕ, ◌+◌, ◌-◌, ◌*◌, ◌^◌, ◌<◌, ◌≤◌, List, length, slice_index, Option, Some, None, inr, refl, sym, ◌∙◌, ap, subst, arith}
 use Rattle.std.specs.Prelude.{option_map}
-use Rattle.puz_board.specs.Boards.{IsBoardOf, blank, moved, slid}
+use Rattle.puz_board.specs.Boards.{IsBoardOf, at, blank, moved, slid}
 use Rattle.puz_board.specs.Cells.{reverse_of, step_of}
 use Rattle.puz_board.specs.Parity.{blank_parity}
 use Rattle.puz_board.specs.declared.moves.Move.{Move}
@@ -11,17 +11,20 @@ use Rattle.puz_board.proofs.MovedLemmas.{moved-reverse_of}
 use Rattle.edge_words.specs.Spots.{IsStepOf}
 use Rattle.set_sum.specs.Bundles.{ShownBundle, IsBundle}
 use Rattle.puz_walk.specs.Cuts.{AreBelow, GoesBeyond, margin_of}
+use Rattle.puz_walk.specs.Pasts.{AreHeld, IsPastOf}
 use Rattle.puz_walk.specs.StoredWordWalks.{IsStoredWordWalk, word_walk_shown}
 use Rattle.puz_walk.specs.Walks.{IsCutOff, IsOpen, LeadsNowhere, ShownWalk}
 use Rattle.puz_walk.specs.WordSpots.{IsSlideTo, IsSpotOf}
-use Rattle.puz_walk.specs.WordSteps.{AreChanged, IsWordStepFrom}
-use Rattle.puz_walk.specs.declared.word_spots.Change.{Change}
+use Rattle.puz_walk.specs.WordSteps.{IsWordStepFrom}
+use Rattle.puz_walk.specs.declared.pasts.Held.{Held}
+use Rattle.puz_walk.specs.declared.pasts.Past.{Past}
 use Rattle.puz_walk.specs.declared.word_spots.Spot.{Spot}
 use Rattle.puz_walk.specs.declared.word_walks.WordStep.{WordStep}
 use Rattle.puz_walk.specs.declared.word_walks.WordWalk.TheInside.{Inside}
-use Rattle.puz_walk.proofs.BlankLemmas.{step_is}
+use Rattle.puz_walk.proofs.BlankLemmas.{step_is, tile_moved, tile_read}
 use Rattle.puz_walk.proofs.MarginLemmas.{margin_some, margin_still, parity_flips}
 use Rattle.puz_walk.proofs.OpenLemmas.{below_from, cut_from, open_from}
+use Rattle.puz_walk.proofs.StartLemmas.{sums_from}
 use Rattle.puz_walk.proofs.TurnLemmas.{blank_below}
 
 -- what is kept of a board that stands at a spot
@@ -54,6 +57,11 @@ module _ (w : Inside) (kept : IsStoredWordWalk w) where
   -- the margin of a walk by edge words is no more than its bound
   pub margin_fits : w.margin ≤ w.bound
   margin_fits = let low = kept.below 0 kept.bundle.some_sets in omega arith
+
+  -- each sum of a walk by edge words is below its bound, and so one more fits into a byte
+  pub sums_small : w.bound < 2 ^ 8 → (set : ℕ) → set < length v.sets → slice_index w.spot.sums set < 255
+  sums_small fits set low =
+      let l = kept.below set low in let some = margin_some w.bound (blank_parity board) in let e = kept.margin in omega arith
 
   -- the bound of a walk by edge words is at least one move
   pub some_moves : 1 ≤ w.bound
@@ -88,10 +96,15 @@ module _ (w : Inside) (kept : IsStoredWordWalk w) where
       pub slides : IsSlideTo v move board (slid board to) to
       slides = record { board = good; leads = leads; to_is = sym (blank-slid v.side board good to inside) }
 
+      -- the tile that moves
+      pub tile_here : (place : ℕ) → place ≡ to → slice_index w.spot.numbers place ≡ at board to
+      unfolding slides
+      tile_here place place_is = tile_read v move board (slid board to) to slides w.spot kept.spot place place_is
+
       -- the move of its tile
       pub step_here : (place : ℕ) → place ≡ to → IsStepOf v.side move board (slid board to) (slice_index w.spot.numbers place) w.spot.blank to
       unfolding slides
-      step_here place place_is = step_is v move board (slid board to) to slides w.spot kept.spot place place_is
+      step_here place place_is = step_is v move board (slid board to) to slides w.spot kept.spot (slice_index w.spot.numbers place) (tile_here place place_is)
 
       still : w.margin ≡ margin_of (w.bound - 1) (blank_parity (slid board to))
       still =
@@ -116,18 +129,29 @@ module _ (w : Inside) (kept : IsStoredWordWalk w) where
           (λ set there. let l = low set (slice_index spot.sums set) (at.kept.each set there).says in let some = some_moves in
           let fits = margin_fits in omega arith)
 
-      -- a move from a walk by edge words is a step that keeps the blank's cell, the move and the change of the sums
-      pub step_next : w.bound < 2 ^ 8 → (spot : Spot) → IsSpotOf v (slid board to) spot → (change : Change) → AreChanged v board (slid board to) change
+      -- the sums of a walk by edge words and what is held before a move are what a step keeps of the board
+      pub past_here : (place : ℕ) → place ≡ to → (held : List Held) → AreHeld v board (slice_index w.spot.numbers place) held
+          → IsPastOf v board (at board to) (record { sums = w.spot.sums; held = held })
+      past_here place place_is held are = record {
+        sums = sums_from v board w.spot.sums kept.spot.kept.room.sums_room (λ set low. (kept.spot.kept.each set low).says);
+        held = subst (λ tile. AreHeld v board tile held) (tile_here place place_is) are;
+      }
+
+      -- a move from a walk by edge words is a step that keeps the blank's cell, the move and what was kept of the board
+      pub step_next : w.bound < 2 ^ 8 → (spot : Spot) → IsSpotOf v (slid board to) spot → (past : Past) → IsPastOf v board (at board to) past
           → IsWordStepFrom (word_walk_shown w) (word_walk_shown (record { bundle = w.bundle; spot = spot; bound = w.bound - 1; margin = w.margin }))
-          (record { from = w.spot.blank; mv = move; change = change })
-      step_next small spot at change changed = record {
+          (record { from = w.spot.blank; mv = move; past = past })
+      unfolding slides
+      step_next small spot stands past is_past = record {
         is_open = walk_open;
         bundle = refl;
-        leads = leads ∙ ap Some (sym at.numbers);
+        leads = leads ∙ ap Some (sym stands.numbers);
         less = (let some = some_moves in omega arith);
         fits = small;
         from = kept.spot.blank_is;
-        changed = subst (λ x. AreChanged v board x change) (sym at.numbers) changed;
+        past = subst (λ x. IsPastOf v board (at x w.spot.blank) past) (sym stands.numbers)
+            (subst (λ tile. IsPastOf v board tile past)
+            (sym (ap (at (slid board to)) kept.spot.blank_is ∙ tile_moved v move board (slid board to) to slides)) is_past);
       }
 
   -- ---- a step taken back
@@ -147,9 +171,10 @@ module _ (w : Inside) (kept : IsStoredWordWalk w) where
       to_is = from.from;
     }
 
-    -- the change that a word step has kept says how the sums went from the board before to this one
-    pub changed_before : AreChanged v before.board board step.change
-    changed_before = subst (λ u. AreChanged u before.board board step.change) bundle_is from.changed
+    -- what a word step has kept is of the board before, and of the tile that moves back
+    pub past_before : (tile : ℕ) → tile ≡ at board step.from → IsPastOf v before.board tile step.past
+    past_before tile is =
+        subst (λ u. IsPastOf u before.board tile step.past) bundle_is (subst (λ t. IsPastOf before.bundle before.board t step.past) (sym is) from.past)
 
     -- the bound of a walk by edge words, with the step's one move given back, fits into a byte
     pub bound_fits : w.bound + 1 < 2 ^ 8

@@ -14,5 +14,6 @@ pub mod Seats
 pub mod StoredOutlines
 pub mod StoredWordBundles
 pub mod Tallies
+pub mod Pasts
 -- What proofs alone need.
 pub mod WordSpots

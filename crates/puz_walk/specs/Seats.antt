@@ -19,6 +19,7 @@ pub record IsSeatFor (v : ShownBundle) (set : ℕ) (owner : Owner) (move : Move)
   pub table : seat.table ≡ owner.member.table
   pub place : seat.place ≡ member_place set owner.member
   pub bit : seat.bit ≡ bit_number owner.tile (move_for owner.member move)
+  pub owners : seat.owners ≡ 1
   pub step : IsIndexStep (pattern_at v owner.member.table) owner.tile (move_for owner.member move) seat.step
 
 -- the seat of a tile that a member of the set has
@@ -27,10 +28,17 @@ pub record IsOwnedSeat (v : ShownBundle) (set tile : ℕ) (move : Move) (seat : 
   pub owns : IsOwner v set tile owner
   pub is : IsSeatFor v set owner move seat
 
--- the seat of a tile that no member of the set has: its table is none of a bundle with words
+-- a seat that nobody has: its table is none of a bundle with words, and its place is the first one of the set
+pub record IsVacant (set : ℕ) (seat : Seat) : Type 0 where
+  pub table : most_worded ≤ seat.table
+  pub place : seat.place ≡ 16 * set
+  pub bit : seat.bit ≡ 0
+  pub owners : seat.owners ≡ 0
+
+-- the seat of a tile that no member of the set has
 pub record IsFreeSeat (v : ShownBundle) (set tile : ℕ) (seat : Seat) : Type 0 where
   pub none : HasNoOwner v set tile
-  pub table : most_worded ≤ seat.table
+  pub vacant : IsVacant set seat
 
 -- the seat of the tile in the set for the move
 abbrev pub IsSeatOf : ShownBundle → ℕ → ℕ → Move → Seat → Type 0

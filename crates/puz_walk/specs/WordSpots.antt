@@ -28,6 +28,10 @@ AreKeptOf v b kept set =
     (number : ℕ) (m : Member) → slice_get (set_of v set) number ≡ Some m
     → IsFoundOn (pattern_at v m.table) (board_for m b) (slice_index kept.indexes (member_place set m)) (slice_index kept.words (member_place set m))
 
+-- the same of each set
+abbrev pub AreAllKept : ShownBundle → List ℕ → Kept → Type 0
+AreAllKept v b kept = (set : ℕ) → set < length v.sets → AreKeptOf v b kept set
+
 -- the sum of the set is kept, and what its members look up
 pub record IsKept (v : ShownBundle) (b sums : List ℕ) (kept : Kept) (set : ℕ) : Type 0 where
   pub says : BundleSays v set b (Finite (slice_index sums set))

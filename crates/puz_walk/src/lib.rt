@@ -6,6 +6,7 @@
 mod cuts;
 mod outlines;
 mod owners;
+mod pasts;
 mod seats;
 mod starts;
 mod sum_walks;

@@ -5,10 +5,9 @@ ghost use Rattle.edge_words.specs.Indexes.{index_count, most_words};
 ghost use Rattle.edge_words.specs.Spots.{IsIndexStep};
 ghost use Rattle.edge_words.specs.Words.{bit_number};
 ghost use Rattle.set_sum.specs.Parts.{part_pattern};
-ghost use Rattle.puz_walk.specs.Seats.{AreSeatsOf, IsSeatFor, IsSeatOf, seat_place};
+ghost use Rattle.puz_walk.specs.Seats.{AreSeatsOf, IsSeatFor, IsSeatOf, IsVacant, seat_place};
 ghost use Rattle.puz_walk.specs.StoredWords.{IsOwner, move_for};
 ghost use Rattle.puz_walk.specs.Outlines.{CanHaveWords};
-ghost use Rattle.puz_walk.specs.WordBundles.{most_worded};
 
 use crate::owners::{Owner, move_for, owner_of};
 use crate::ways::way_of;
@@ -32,6 +31,8 @@ pub(crate) struct Seat {
     pub(crate) place: u8,
     /// The bit of a word that says whether the move raises the count.
     pub(crate) bit: u8,
+    /// How many members of the set have the tile: 1, or 0.
+    pub(crate) owners: u8,
     /// What the move adds to the index, modulo 2^32.
     pub(crate) step: u32,
 }
@@ -50,7 +51,7 @@ pub(crate) fn all_seats(bundle: &Bundle<'_>) -> [Seat; MOST_SEATS]
     ensures { AreSeatsOf bundle.now result }
 {
     let cells = bundle.side().cells();
-    let mut seats = [vacant(); MOST_SEATS];
+    let mut seats = [vacant(0); MOST_SEATS];
     for place in 0..128 * u16::from(bundle.sets()) {
         let tile = (place / 4 % 32) as u8;
         if tile < cells {
@@ -72,7 +73,7 @@ fn seat_of(bundle: &Bundle<'_>, set: u8, tile: u8, mv: Move) -> Seat
     let _sets = bundle.sets();
     match owner_of(bundle, set, tile) {
         Some(owner) => owned_seat(bundle, set, owner, mv),
-        None => vacant(),
+        None => vacant(set),
     }
 }
 
@@ -88,6 +89,7 @@ fn owned_seat(bundle: &Bundle<'_>, set: u8, owner: Owner, mv: Move) -> Seat
         table: owner.member.table,
         place: member_place(set, owner.member) as u8,
         bit: bit_for(owner, mv),
+        owners: 1,
         step: step_for(bundle.part(owner.member.table), owner, mv),
     }
 }
@@ -109,14 +111,16 @@ fn step_for(part: &Part<'_>, owner: Owner, mv: Move) -> u32
     index_step(&part.pattern(), owner.tile, move_for(owner.member, mv))
 }
 
-/// The seat of a tile that no member of a set has.
-fn vacant() -> Seat
-    ensures { most_worded ≤ result.table }
+/// The seat of a tile that no member of a set has. Its place is one of the set, so that what is put back there is.
+fn vacant(set: u8) -> Seat
+    requires { set < 16 }
+    ensures { IsVacant set result }
 {
     Seat {
         table: NO_TABLE,
-        place: 0,
+        place: 16 * set,
         bit: 0,
+        owners: 0,
         step: 0,
     }
 }

@@ -1,16 +1,17 @@
 //! Bundles whose tables have edge words.
 
-ghost use Rattle.std.specs.Prelude.{◌≡◌, ◌≢◌, ◌*◌, ◌<◌, ◌≤◌, ◌↔◌, ℕ, IfNone, IfSome, IsTrue, List, length};
+ghost use Rattle.std.specs.Prelude.{◌≡◌, ◌≢◌, ◌*◌, ◌<◌, ◌≤◌, ◌↔◌, ℕ, IfNone, IfSome, IsTrue, List, length, slice_index};
 ghost use Rattle.puz_board.specs.Cells.{step_of};
 ghost use Rattle.puz_board.specs.Masks.{numbers_of};
 ghost use Rattle.edge_words.specs.Spots.{IsStepOf};
 ghost use Rattle.edge_words.specs.Words.{ShownWords};
-ghost use Rattle.set_sum.specs.Bundles.{IsBundle};
+ghost use Rattle.set_sum.specs.Bundles.{BundleSays, IsBundle};
+ghost use Rattle.tab_rule.specs.declared.tables.Count.TheVariants.{Finite};
 ghost use Rattle.puz_walk.specs.Seats.{IsSeatOf};
 ghost use Rattle.puz_walk.specs.WordBundles.{HaveWords, most_worded};
-ghost use Rattle.puz_walk.specs.WordSpots.{AreKept, AreKeptOf, HasPlaces, IsShift};
+ghost use Rattle.puz_walk.specs.WordSpots.{AreKept, AreKeptOf, HasPlaces};
 
-use crate::outlines::{MOST_WORDED, Outline};
+use crate::outlines::Outline;
 use crate::seats::Seat;
 use crate::word_spots::{Kept, Spot};
 use edge_words::{Words, raises};
@@ -67,6 +68,7 @@ impl<'a> WordBundle<'a> {
         ensures sets { result ≡ length self.now.sets }
         ensures bundle { IsBundle self.now }
         ensures few { length self.now.tables ≤ most_worded }
+        ensures words { (words : List ShownWords) × HaveWords self.now words }
     {
         self.outline.sets()
     }
@@ -81,8 +83,8 @@ impl<'a> WordBundle<'a> {
     }
 
     /// The seat of a tile in a set for a move.
-    #[inline]
-    fn seat(&self, set: u8, tile: u8, mv: Move) -> Seat
+    #[inline(always)]
+    pub(crate) fn seat(&self, set: u8, tile: u8, mv: Move) -> Seat
         requires set { set < length self.now.sets }
         requires tile { tile < self.now.side * self.now.side }
         ensures seat { IsSeatOf self.now set tile mv result }
@@ -92,27 +94,28 @@ impl<'a> WordBundle<'a> {
         self.outline.seat(set, tile, mv)
     }
 
-    /// Whether a move of a tile raises the sum of a set, where a member of the set has the tile.
-    #[inline]
-    pub(crate) fn raises(&self, spot: &Spot, set: u8, tile: u8, mv: Move) -> Option<bool>
+    /// The sum of a set after a move of a tile. No jump is taken for a rise or a fall.
+    #[inline(always)]
+    pub(crate) fn sum_after(&self, spot: &Spot, set: u8, tile: u8, mv: Move) -> u8
         requires set { set < length self.now.sets }
+        requires small { slice_index spot.now.sums set < 255 }
         requires step { (b : List ℕ) × (next : List ℕ) × (from : ℕ) × (to : ℕ)
             × IsStepOf self.now.side mv b next tile from to
             × AreKept self.now b spot.now.sums spot.now.kept }
         ensures { (b next : List ℕ) (from to : ℕ)
             → IsStepOf self.now.side mv b next tile from to
             → AreKept self.now b spot.now.sums spot.now.kept
-            → IsShift self.now b next set result }
+            → BundleSays self.now set next (Finite result) }
     {
         let seat = self.seat(set, tile, mv);
-        if MOST_WORDED <= usize::from(seat.table) {
-            return None;
-        }
-        Some(raises(spot.kept.words[usize::from(seat.place)], seat.bit))
+        let word = spot.kept.words[usize::from(seat.place)];
+        let rises = u8::from(raises(word, seat.bit)) & seat.owners;
+        let falls = seat.owners - rises;
+        spot.sums[usize::from(set)] + rises - falls
     }
 
     /// What is kept of a set's members after a move of a tile.
-    #[inline]
+    #[inline(always)]
     pub(crate) fn follow(&self, kept: &mut Kept, set: u8, tile: u8, mv: Move)
         requires set { set < length self.now.sets }
         requires room { HasPlaces kept.old }

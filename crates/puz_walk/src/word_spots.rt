@@ -1,18 +1,17 @@
 //! Where a walk stands: the board, and for each set its sum, and the indexes and words of its members.
 
-ghost use Rattle.std.specs.Prelude.{◌≡◌, ◌≢◌, ◌*◌, ◌+◌, ◌-◌, ◌<◌, ◌≤◌, ◌^◌, if◌then◌else◌, ℕ, IfNone, IfSome, List, length, take};
-ghost use Rattle.std.specs.Int.{bit_at};
+ghost use Rattle.std.specs.Prelude.{◌≡◌, ◌*◌, ◌+◌, ◌<◌, if◌then◌else◌, ℕ, IfNone, IfSome, List, length, slice_index, slice_set, take};
 ghost use Rattle.puz_board.specs.Boards.{IsBoardOf, at, side_of};
 ghost use Rattle.set_sum.specs.Bundles.{IsBundle};
 ghost use Rattle.edge_words.specs.Spots.{IsStepOf};
 ghost use Rattle.puz_walk.specs.Cuts.{AreBelow, GoesBeyond};
+ghost use Rattle.puz_walk.specs.Pasts.{IsPastOf};
 ghost use Rattle.puz_walk.specs.Starts.{AreSumsOn};
 ghost use Rattle.puz_walk.specs.WordBundles.{pattern_at};
-ghost use Rattle.puz_walk.specs.WordSpots.{AreKept, AreKeptOf, HasPlaces, IsFoundOn, IsSlideTo, IsSpotOf, Shifts, member_place};
-ghost use Rattle.puz_walk.specs.WordSteps.{AreChanged};
+ghost use Rattle.puz_walk.specs.WordSpots.{AreAllKept, AreKept, AreKeptOf, HasPlaces, IsFoundOn, IsSlideTo, IsSpotOf, member_place};
 
+use crate::pasts::{Past, put_back};
 use crate::word_bundles::WordBundle;
-use puz_board::masks::has_cell;
 use puz_board::{Board, Move};
 use set_sum::{MOST_SETS, Member};
 
@@ -39,11 +38,13 @@ pub(crate) struct Spot {
     pub(crate) kept: Kept,
 }
 
-/// The sets whose sums a move raises by one, and those whose sums it lowers by one: bit s for set s.
+/// A move of a tile.
 #[derive(Clone, Copy)]
-pub(crate) struct Change {
-    pub(crate) rose: u32,
-    pub(crate) fell: u32,
+pub(crate) struct Slide {
+    pub(crate) mv: Move,
+    pub(crate) tile: u8,
+    /// The cell where the tile is before the move, and the blank after it.
+    pub(crate) to: u8,
 }
 
 /// Where the index and the word of a member of a set are kept.
@@ -55,136 +56,120 @@ pub(crate) fn member_place(set: u8, member: Member) -> usize
     16 * usize::from(set) + 2 * usize::from(member.table) + usize::from(member.is_transposed)
 }
 
-impl Change {
-    /// What the move back does.
-    #[inline]
-    pub(crate) fn back(self) -> Change
-        ensures { result ≡ record { rose = self.fell; fell = self.rose } }
-    {
-        Change {
-            rose: self.fell,
-            fell: self.rose,
-        }
-    }
-
-    /// The sum of a set after the move.
-    #[inline]
-    fn apply(self, set: u8, sum: u8) -> u8
-        requires set { set < 16 }
-        requires fits { sum + bit_at self.rose set < 2 ^ 8 }
-        requires some { bit_at self.fell set ≤ sum + bit_at self.rose set }
-        ensures { result + bit_at self.fell set ≡ sum + bit_at self.rose set }
-    {
-        sum + u8::from(has_cell(self.rose, set)) - u8::from(has_cell(self.fell, set))
-    }
-}
-
-/// What a move of a tile does to the sums, where each is below a limit after it.
+/// The sums after a move of a tile, where each is below a limit. It is given how many sets there are.
 #[inline(always)]
 pub(crate) fn judge(
     bundle: &WordBundle<'_>,
     spot: &Spot,
-    tile: u8,
-    mv: Move,
+    slide: Slide,
     limit: u8,
-) -> Option<Change>
-    requires { (b : List ℕ) × (next : List ℕ) × (from : ℕ) × (to : ℕ)
-        × IsStepOf bundle.now.side mv b next tile from to
+    sets: u8,
+) -> Option<[u8; MOST_SETS]>
+    requires sets { sets ≡ length bundle.now.sets }
+    requires small { (set : ℕ) → set < length bundle.now.sets
+        → slice_index spot.now.sums set < 255 }
+    requires step { (b : List ℕ) × (next : List ℕ) × (from : ℕ) × (to : ℕ)
+        × IsStepOf bundle.now.side slide.mv b next slide.tile from to
         × AreKept bundle.now b spot.now.sums spot.now.kept }
-    ensures some { IfSome result (λ change. (b next : List ℕ) (from to : ℕ)
-        → IsStepOf bundle.now.side mv b next tile from to
+    ensures some { IfSome result (λ sums. (b next : List ℕ) (from to : ℕ)
+        → IsStepOf bundle.now.side slide.mv b next slide.tile from to
         → AreKept bundle.now b spot.now.sums spot.now.kept
-        → AreChanged bundle.now b next change × AreBelow bundle.now next limit) }
+        → AreSumsOn bundle.now next sums × AreBelow bundle.now next limit) }
     ensures none { IfNone result ((b next : List ℕ) (from to : ℕ)
-        → IsStepOf bundle.now.side mv b next tile from to
+        → IsStepOf bundle.now.side slide.mv b next slide.tile from to
         → AreKept bundle.now b spot.now.sums spot.now.kept
         → GoesBeyond bundle.now next limit) }
 {
-    let mut change = Change { rose: 0, fell: 0 };
+    // Asked only for what its contract says.
+    let _sets = bundle.sets();
+    let mut sums = spot.sums;
     let mut is_below = true;
-    for set in 0..bundle.sets() {
-        let rises = bundle.raises(spot, set, tile, mv);
-        is_below &= sum_after(spot.sums[usize::from(set)], rises) < u16::from(limit);
-        change = noted(change, set, rises);
+    for set in 0..sets {
+        let sum = bundle.sum_after(spot, set, slide.tile, slide.mv);
+        sums[usize::from(set)] = sum;
+        is_below &= sum < limit;
     }
-    if is_below { Some(change) } else { None }
+    if is_below { Some(sums) } else { None }
 }
 
-/// The sum after a move that raises it, lowers it, or leaves it.
-#[inline]
-fn sum_after(sum: u8, rises: Option<bool>) -> u16
-    requires { (e : ℕ) × Shifts rises sum e }
-    ensures { Shifts rises sum result }
-{
-    let (rose, fell) = (matches!(rises, Some(true)), matches!(rises, Some(false)));
-    u16::from(sum) + u16::from(rose) - u16::from(fell)
-}
-
-/// The change with one set more.
-#[inline]
-fn noted(change: Change, set: u8, rises: Option<bool>) -> Change
-    requires set { set < 16 }
-    requires rose { bit_at change.rose set ≡ 0 }
-    requires fell { bit_at change.fell set ≡ 0 }
-    ensures here { (d e : ℕ) → Shifts rises d e
-        → e + bit_at result.fell set ≡ d + bit_at result.rose set }
-    ensures rose { (x : ℕ) → x ≢ set → bit_at result.rose x ≡ bit_at change.rose x }
-    ensures fell { (x : ℕ) → x ≢ set → bit_at result.fell x ≡ bit_at change.fell x }
-    ensures one { bit_at result.rose set + bit_at result.fell set ≤ 1 }
-{
-    Change {
-        rose: with_if(change.rose, set, matches!(rises, Some(true))),
-        fell: with_if(change.fell, set, matches!(rises, Some(false))),
-    }
-}
-
-/// The mask with one number more where this is wanted. No jump is taken for it.
-#[inline]
-fn with_if(mask: u32, number: u8, is_wanted: bool) -> u32
-    requires number { number < 32 }
-    requires none { bit_at mask number ≡ 0 }
-    ensures here { bit_at result number ≡ (if is_wanted then 1 else 0) }
-    ensures others { (x : ℕ) → x ≢ number → bit_at result x ≡ bit_at mask x }
-{
-    mask | u32::from(is_wanted) << number
-}
-
-/// Moves the blank to a cell beside its own, and the tile there into its own.
+/// Moves the blank, and the tile into its cell. It is given the sums after the move, and how many sets there are.
 #[inline(always)]
-pub(crate) fn move_blank(bundle: &WordBundle<'_>, spot: &mut Spot, to: u8, mv: Move, change: Change)
-    requires { (b : List ℕ) × (next : List ℕ) × IsSlideTo bundle.now mv b next to
-        × IsSpotOf bundle.now b spot.old × AreChanged bundle.now b next change }
-    ensures { (b next : List ℕ) → IsSlideTo bundle.now mv b next to
-        → IsSpotOf bundle.now b spot.old → AreChanged bundle.now b next change
-        → IsSpotOf bundle.now next spot.new }
+pub(crate) fn move_blank(
+    bundle: &WordBundle<'_>,
+    spot: &mut Spot,
+    slide: Slide,
+    sums: [u8; MOST_SETS],
+    sets: u8,
+)
+    requires sets { sets ≡ length bundle.now.sets }
+    requires slides { (b : List ℕ) × (next : List ℕ) × IsSlideTo bundle.now slide.mv b next slide.to
+        × (slide.tile ≡ at b slide.to) × IsSpotOf bundle.now b spot.old
+        × AreSumsOn bundle.now next sums }
+    ensures { (b next : List ℕ) → IsSlideTo bundle.now slide.mv b next slide.to
+        → slide.tile ≡ at b slide.to → IsSpotOf bundle.now b spot.old
+        → AreSumsOn bundle.now next sums → IsSpotOf bundle.now next spot.new }
 {
-    let from = spot.blank;
-    let tile = spot.numbers[usize::from(to)];
-    spot.numbers[usize::from(from)] = tile;
-    spot.numbers[usize::from(to)] = 0;
-    spot.blank = to;
-    follow_sets(bundle, spot, tile, mv, change);
+    // Asked only for what its contract says.
+    let _sets = bundle.sets();
+    exchange(&mut spot.numbers, spot.blank, slide);
+    spot.blank = slide.to;
+    spot.sums = sums;
+    follow_sets(bundle, &mut spot.kept, slide, sets);
 }
 
-/// The sums, and what is kept of members, after a move of a tile.
+/// Moves the blank back, and the tile into its cell. It is given what a step has kept of the board that it came from, and how
+/// many sets there are.
 #[inline(always)]
-fn follow_sets(bundle: &WordBundle<'_>, spot: &mut Spot, tile: u8, mv: Move, change: Change)
-    requires { (b : List ℕ) × (next : List ℕ) × (from : ℕ) × (to : ℕ)
-        × IsStepOf bundle.now.side mv b next tile from to
-        × AreKept bundle.now b spot.old.sums spot.old.kept
-        × AreChanged bundle.now b next change }
-    ensures kept { (b next : List ℕ) (from to : ℕ)
-        → IsStepOf bundle.now.side mv b next tile from to
-        → AreKept bundle.now b spot.old.sums spot.old.kept
-        → AreChanged bundle.now b next change
-        → AreKept bundle.now next spot.new.sums spot.new.kept }
-    ensures numbers { spot.new.numbers ≡ spot.old.numbers }
-    ensures blank { spot.new.blank ≡ spot.old.blank }
+pub(crate) fn move_back(
+    bundle: &WordBundle<'_>,
+    spot: &mut Spot,
+    slide: Slide,
+    past: &Past,
+    sets: u8,
+)
+    requires sets { sets ≡ length bundle.now.sets }
+    requires slides { (b : List ℕ) × (next : List ℕ) × IsSlideTo bundle.now slide.mv b next slide.to
+        × (slide.tile ≡ at b slide.to) × IsSpotOf bundle.now b spot.old
+        × IsPastOf bundle.now next slide.tile past.now }
+    ensures { (b next : List ℕ) → IsSlideTo bundle.now slide.mv b next slide.to
+        → slide.tile ≡ at b slide.to → IsSpotOf bundle.now b spot.old
+        → IsPastOf bundle.now next slide.tile past.now → IsSpotOf bundle.now next spot.new }
 {
-    for set in 0..bundle.sets() {
-        let number = usize::from(set);
-        spot.sums[number] = change.apply(set, spot.sums[number]);
-        bundle.follow(&mut spot.kept, set, tile, mv);
+    // Asked only for what its contract says.
+    let _sets = bundle.sets();
+    exchange(&mut spot.numbers, spot.blank, slide);
+    spot.blank = slide.to;
+    spot.sums = past.sums;
+    put_back(bundle, &mut spot.kept, &past.held, slide, sets);
+}
+
+/// The numbers after a move of a tile into the blank's cell.
+#[inline(always)]
+fn exchange(numbers: &mut [u8; 25], blank: u8, slide: Slide)
+    requires blank { blank < 25 }
+    requires to { slide.to < 25 }
+    requires room { length numbers.old ≡ 25 }
+    ensures { numbers.new ≡ slice_set (slice_set numbers.old blank slide.tile) slide.to 0 }
+{
+    numbers[usize::from(blank)] = slide.tile;
+    numbers[usize::from(slide.to)] = 0;
+}
+
+/// What is kept of the members of all sets after a move of a tile. It is given how many sets there are.
+#[inline(always)]
+fn follow_sets(bundle: &WordBundle<'_>, kept: &mut Kept, slide: Slide, sets: u8)
+    requires sets { sets ≡ length bundle.now.sets }
+    requires room { HasPlaces kept.old }
+    requires step { (b : List ℕ) × (next : List ℕ) × (from : ℕ) × (to : ℕ)
+        × IsStepOf bundle.now.side slide.mv b next slide.tile from to
+        × AreAllKept bundle.now b kept.old }
+    ensures room { HasPlaces kept.new }
+    ensures all { (b next : List ℕ) (from to : ℕ)
+        → IsStepOf bundle.now.side slide.mv b next slide.tile from to
+        → AreAllKept bundle.now b kept.old → AreAllKept bundle.now next kept.new }
+{
+    for set in 0..sets {
+        bundle.follow(kept, set, slide.tile, slide.mv);
     }
 }
 

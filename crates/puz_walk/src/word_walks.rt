@@ -1,14 +1,16 @@
 //! Boards that are moved in place, cut off by edge words.
 
-ghost use Rattle.std.specs.Prelude.{◌≡◌, ◌↔◌, IfNone, IfSome, IsTrue};
-ghost use Rattle.puz_board.specs.Boards.{IsGoal, side_of};
+ghost use Rattle.std.specs.Prelude.{◌≡◌, ◌+◌, ◌≤◌, ◌↔◌, IfNone, IfSome, IsTrue, Some, length};
+ghost use Rattle.puz_board.specs.Boards.{IsGoal, moved, side_of};
 ghost use Rattle.puz_walk.specs.Starts.{AreSumsOn};
-ghost use Rattle.puz_walk.specs.Walks.{IsClosed};
+ghost use Rattle.puz_walk.specs.Walks.{IsClosed, LeadsNowhere, ShownWalk};
+ghost use Rattle.puz_walk.specs.WordSteps.{IsWordStepFrom};
 
 use crate::cuts::margin_of;
+use crate::pasts::{Past, held_of};
 use crate::walks::Walk;
 use crate::word_bundles::WordBundle;
-use crate::word_spots::{Change, Spot, judge, move_blank, spot_of};
+use crate::word_spots::{Slide, Spot, judge, move_back, move_blank, spot_of};
 use puz_board::{Board, Move};
 use set_sum::MOST_SETS;
 use std::marker::Model;
@@ -36,12 +38,12 @@ impl<'a> Model for WordWalk<'a> {
     ghost invariant = { IsStoredWordWalk };
 }
 
-/// A step of a walk, by which it is taken back: where the blank was, how it went, and which sums rose or fell.
+/// A step of a walk, by which it is taken back: where the blank was, how it went, and what was kept before.
 #[derive(Clone, Copy)]
 pub struct WordStep {
     from: u8,
     mv: Move,
-    change: Change,
+    past: Past,
 }
 
 impl<'a> WordWalk<'a> {
@@ -72,6 +74,50 @@ impl<'a> WordWalk<'a> {
             margin,
         })
     }
+
+    /// Enters, as a walk does. It is given how many sets there are.
+    #[inline(always)]
+    fn enter_by(&mut self, mv: Move, sets: u8) -> Option<WordStep>
+        requires { sets ≡ length self.old.bundle.sets }
+        ensures none { IfNone result ((self.new ≡ self.old) × LeadsNowhere self.old mv) }
+        ensures some { IfSome result (λ step.
+            (moved self.old.board mv ≡ Some self.new.board)
+            × (self.new.bundle ≡ self.old.bundle) × (self.new.bound + 1 ≡ self.old.bound)
+            × IsWordStepFrom self.old self.new step) }
+        ensures small { self.old.bound ≤ 255 }
+    {
+        let bundle = self.bundle;
+        let from = self.spot.blank;
+        let to = bundle.after(from, mv)?;
+        let tile = self.spot.numbers[usize::from(to)];
+        let slide = Slide { mv, tile, to };
+        let sums = judge(bundle, &self.spot, slide, self.bound - self.margin, sets)?;
+        let past = Past {
+            sums: self.spot.sums,
+            held: held_of(bundle, &self.spot.kept, slide, sets),
+        };
+        move_blank(bundle, &mut self.spot, slide, sums, sets);
+        self.bound -= 1;
+        Some(WordStep { from, mv, past })
+    }
+
+    /// Takes a step back, as a walk does. It is given how many sets there are.
+    #[inline(always)]
+    fn leave_by(&mut self, step: &WordStep, sets: u8)
+        requires sets { sets ≡ length self.old.bundle.sets }
+        requires step { (walk : ShownWalk) × IsWordStepFrom walk self.old step.now }
+        ensures { (walk : ShownWalk) → IsWordStepFrom walk self.old step.now → self.new ≡ walk }
+    {
+        let to = step.from;
+        let tile = self.spot.numbers[usize::from(to)];
+        let slide = Slide {
+            mv: step.mv.reverse(),
+            tile,
+            to,
+        };
+        move_back(self.bundle, &mut self.spot, slide, &step.past, sets);
+        self.bound += 1;
+    }
 }
 
 impl<'a> Walk for WordWalk<'a> {
@@ -94,23 +140,23 @@ impl<'a> Walk for WordWalk<'a> {
         self.spot.sums
     }
 
+    // The loops over one or two sets run to a number that the compiler knows, and so to no loop.
     #[inline(always)]
     fn enter(&mut self, mv: Move) -> Option<WordStep> {
-        let bundle = self.bundle;
-        let from = self.spot.blank;
-        let to = bundle.after(from, mv)?;
-        let tile = self.spot.numbers[usize::from(to)];
-        let change = judge(bundle, &self.spot, tile, mv, self.bound - self.margin)?;
-        move_blank(bundle, &mut self.spot, to, mv, change);
-        self.bound -= 1;
-        Some(WordStep { from, mv, change })
+        match self.bundle.sets() {
+            1 => self.enter_by(mv, 1),
+            2 => self.enter_by(mv, 2),
+            sets => self.enter_by(mv, sets),
+        }
     }
 
     #[inline(always)]
     fn leave(&mut self, step: &WordStep) {
-        let (back, change) = (step.mv.reverse(), step.change.back());
-        move_blank(self.bundle, &mut self.spot, step.from, back, change);
-        self.bound += 1;
+        match self.bundle.sets() {
+            1 => self.leave_by(step, 1),
+            2 => self.leave_by(step, 2),
+            sets => self.leave_by(step, sets),
+        }
     }
 }
 

@@ -31,7 +31,7 @@ pub step_for-requires-clause-tile : goal.step_for-requires-clause-tile
 step_for-requires-clause-tile c =
     subst (λ p. c.args.owner.tile < length p.tiles) (sym (pattern (goal.at.step_for-requires-clause-tile c).After-part)) c.requires.owner.1.low
 
--- what is built for the owner of a tile is its seat: the index's place, and the move's bit and index step
+-- what is built for the owner of a tile is its seat: the index's place, the move's bit and index step, and that there is one owner
 pub returns : goal.returns
 returns c =
     let owner = c.args.owner in
@@ -39,6 +39,7 @@ returns c =
       table = refl;
       place = c.member_place.ensures;
       bit = c.bit_for.ensures;
+      owners = refl;
       step = subst (λ p. IsIndexStep p owner.tile (move_for owner.member c.args.mv) c.step_for.result)
           (pattern (goal.at.returns c).After-part) c.step_for.ensures;
     }

@@ -1,73 +1,69 @@
-use Rattle.std.proofs.Common.{◌<◌, ◌≤◌, ltb, length, slice_index, inl, inr, sym, subst, arith}
+use Rattle.std.proofs.Common.{◌≡◌, ◌≢◌, ℕ, ◌<◌, ltb, length, slice_index, slice_set, inl, inr, sym, ◌∙◌, ap, subst, arith}
+use Rattle.std.proofs.Common.{get_or-set_same, get_or-set_other, length-set}
 use Rattle.std.proofs.lemmas.Bool.{and_cases, cases_eq, ltb-true, ltb-false}
 use Rattle.tab_rule.specs.declared.tables.Count.TheVariants.{Finite}
-use Rattle.puz_walk.specs.WordSpots.{Shifts}
-use Rattle.puz_walk.proofs.JudgeLemmas.{IsJudged, after_is, both_are, judged_here, judged_kept, sum_once}
+use Rattle.set_sum.specs.Bundles.{BundleSays}
+use Rattle.puz_walk.proofs.JudgeLemmas.{both_are, sum_once}
+use Rattle.puz_walk.proofs.StartLemmas.{sums_from}
 use Rattle.puz_walk.proofs.word_spots.judge.Goals as goal
 
--- by what a set's word tells, there is a sum after the move: the one that the set says of the next board
-pub sum_after-requires : goal.sum_after-requires
-sum_after-requires c =
-    let v = c.args.bundle.now in
-    let step = c.requires in
-    let set = c.loop-set.set in
-    let low : set < length v.sets = (let more = c.loop-set-test.true in let count = c.sets-set-end.ensures.sets in omega arith) in
-    let shift = c.raises-rises.ensures step.0 step.1 step.2 step.3 step.4 step.5 in
-    let before = sum_once v set step.0 shift.before (slice_index c.args.spot.now.sums set) shift.says_before (step.5.each set low).says in (
-      shift.after,
-      subst (λ k. Shifts c.raises-rises.result (slice_index c.args.spot.now.sums k) shift.after) (sym c.from.ensures)
-          (subst (λ d. Shifts c.raises-rises.result d shift.after) before shift.is),
-    )
-
--- one set more is judged: where its new sum is below the limit its change is noted and the others stay judged, and where it isn't the
--- next board goes beyond the limit
+-- with one more set's sum put in, the sums so far are those of the next board, and they are below the limit, or one of them isn't
 pub loop-set-preserved : goal.loop-set-preserved
 loop-set-preserved c =
     let v = c.args.bundle.now in
     let set = c.loop-set.set in
-    let sum = slice_index c.args.spot.now.sums set in
-    let low : set < length v.sets = (let more = c.loop-set-test.true in let count = c.sets-set-end.ensures.sets in omega arith) in
-    let is : Shifts c.raises-rises.result sum c.sum_after.result =
-    subst (λ k. Shifts c.raises-rises.result (slice_index c.args.spot.now.sums k) c.sum_after.result) c.from.ensures c.sum_after.ensures in
-    let noted = c.noted-change.ensures in
+    let sums = c.loop-set.sums in
+    let sum = c.sum_after-sum.result in
+    let room = c.loop-set.invariant.room in
+    let place = c.from.ensures in
+    let few = c.sets-sets.ensures.bundle.few_sets in
+    let low : c.from.result < length sums = (let more = c.loop-set-test.true in let count = c.requires.sets in omega arith) in
+    let here : slice_index (slice_set sums c.from.result sum) set ≡ sum =
+    ap (slice_index (slice_set sums c.from.result sum)) (sym place) ∙ get_or-set_same sums c.from.result sum 0 low in
+    let other : (k : ℕ) → k ≢ set → slice_index (slice_set sums c.from.result sum) k ≡ slice_index sums k =
+    λ k ne. get_or-set_other sums c.from.result k sum 0 (λ e. ne (e ∙ place)) in
     record {
-      judged = λ b next from to step kept all k l.
-          let both = both_are c.loop-set.is_below (ltb c.sum_after.result c.from-in-loop-set.result) all in
-          let below : c.sum_after.result < c.args.limit =
-          (let l = ltb-true c.sum_after.result c.from-in-loop-set.result both.1 in let limit = c.from-in-loop-set.ensures in omega arith) in
+      room = length-set _ _ _ ∙ room;
+      says = λ b next from to step kept k l. elim (cases_eq k set) [
+        | inl e ↦ subst (λ i. BundleSays v i next (Finite (slice_index (slice_set sums c.from.result sum) i))) (sym e)
+            (subst (λ d. BundleSays v set next (Finite d)) (sym here) (c.sum_after-sum.ensures b next from to step kept))
+        | inr ne ↦ subst (λ d. BundleSays v k next (Finite d)) (sym (other k ne)) (c.loop-set.invariant.says b next from to step kept k (omega arith))
+      ];
+      below = λ all k l.
+          let both = both_are c.loop-set.is_below (ltb sum c.args.limit) all in
+          let under = ltb-true sum c.args.limit both.1 in
           elim (cases_eq k set) [
-            | inl e ↦ subst (IsJudged v b next c.args.limit c.noted-change.result) (sym e) (
-                judged_here v b next c.args.limit c.noted-change.result set sum c.sum_after.result c.raises-rises.result
-                (let fits = c.ranges.limit.fits in omega arith)
-                (kept.each set low).says (c.raises-rises.ensures b next from to step kept) is below noted.here noted.one)
-            | inr ne ↦ judged_kept v b next c.args.limit c.loop-set.change c.noted-change.result k (noted.rose k ne) (noted.fell k ne)
-                (c.loop-set.invariant.judged b next from to step kept both.0 k (omega arith))
+            | inl e ↦ (let same : slice_index (slice_set sums c.from.result sum) k ≡ sum = ap (slice_index (slice_set sums c.from.result sum)) e ∙ here in
+                omega arith)
+            | inr ne ↦ (let same = other k ne in let low = c.loop-set.invariant.below both.0 k (omega arith) in omega arith)
           ];
-      beyond = λ b next from to step kept some.
-          elim (and_cases c.loop-set.is_below (ltb c.sum_after.result c.from-in-loop-set.result) some) [
-            | inl earlier ↦ c.loop-set.invariant.beyond b next from to step kept earlier
-            | inr here ↦
-                let shift = c.raises-rises.ensures b next from to step kept in
-                let same = after_is v b next c.args.limit set sum c.sum_after.result c.raises-rises.result (kept.each set low).says shift is in
-                let high = ltb-false c.sum_after.result c.from-in-loop-set.result here in
-                let limit = c.from-in-loop-set.ensures in
-                (set, Finite shift.after, shift.says_after, omega arith)
-          ];
-      rose = λ k l. (let e = noted.rose k (λ w. omega arith) in let f = c.loop-set.invariant.rose k (omega arith) in omega arith);
-      fell = λ k l. (let e = noted.fell k (λ w. omega arith) in let f = c.loop-set.invariant.fell k (omega arith) in omega arith);
+      beyond = λ some. elim (and_cases c.loop-set.is_below (ltb sum c.args.limit) some) [
+        | inl earlier ↦
+            let at = c.loop-set.invariant.beyond earlier in
+            let is = other at.0 (λ e. let l = at.1 in omega arith) in
+            (at.0, (let l = at.1 in omega arith), let high = at.2 in omega arith)
+        | inr now ↦ let high = ltb-false sum c.args.limit now in (set, (omega arith), (omega arith))
+      ];
     }
 
--- where each set is below the limit, the noted change is that of each, and all their new sums are below the limit
+-- where each set is below the limit, the sums are those of the next board, all below the limit
 pub returns-then-is_below-clause-some : goal.returns-then-is_below-clause-some
 returns-then-is_below-clause-some c b next from to step kept =
     let v = c.args.bundle.now in
-    let all : length v.sets ≤ c.loop-set.set = (let done = c.loop-set-test.false in let count = c.sets-set-end.ensures.sets in omega arith) in
-    let judged = c.loop-set.invariant.judged b next from to step kept c.if-is_below.true in (
-      λ set low. (judged set (omega arith)).changed,
-      λ set d says. (judged set (let low : set < length v.sets = says.there in omega arith)).below d says,
+    let end = c.loop-set-test.false in
+    let count = c.requires.sets in
+    let says : (k : ℕ) → k < length v.sets → BundleSays v k next (Finite (slice_index c.loop-set.sums k)) =
+    λ k low. c.loop-set.invariant.says b next from to step kept k (omega arith) in (
+      sums_from v next c.loop-set.sums c.loop-set.invariant.room says,
+      λ set d told.
+          let there : set < length v.sets = told.there in
+          let same = sum_once v set next d (slice_index c.loop-set.sums set) told (says set there) in
+          let low = c.loop-set.invariant.below c.if-is_below.true set (omega arith) in
+          omega arith,
     )
 
 -- where some set isn't, the next board goes beyond the limit
 pub returns-else-is_below-clause-none : goal.returns-else-is_below-clause-none
 returns-else-is_below-clause-none c b next from to step kept =
-    c.loop-set.invariant.beyond b next from to step kept c.if-is_below.false
+    let at = c.loop-set.invariant.beyond c.if-is_below.false in
+    (at.0, Finite (slice_index c.loop-set.sums at.0), c.loop-set.invariant.says b next from to step kept at.0 at.1, at.2)

@@ -1,44 +1,53 @@
-use Rattle.std.proofs.Common.{◌*◌, ◌<◌, length, length-set, take, sym, ◌∙◌, ap, subst}
+use Rattle.std.proofs.Common.{◌*◌, length, length-set, take, ◌∙◌, ap}
 use Rattle.puz_walk.proofs.BlankLemmas.{from_room, next_is, numbers_next, step_is, to_room}
+use Rattle.puz_walk.proofs.StartLemmas.{sum_said}
 use Rattle.puz_walk.proofs.word_spots.move_blank.Goals as goal
 
--- the number in the cell to which the blank goes is read within the 25 of a spot
-pub bounds-spot-from : goal.bounds-spot-from
-bounds-spot-from c = subst (λ k. k < 25) (sym c.from.ensures) (to_room c.args.bundle.now c.args.mv c.requires.0 c.requires.1 c.args.to c.requires.2)
+-- the blank's old cell is one of the 25 of a spot
+pub exchange-requires-clause-blank : goal.exchange-requires-clause-blank
+exchange-requires-clause-blank c =
+    let moves = c.requires.slides in
+    from_room c.args.bundle.now c.args.slide.mv moves.0 moves.1 c.args.slide.to moves.2 c.args.spot.now moves.4
 
--- the tile is written to the blank's old cell within the 25 of a spot
-pub bounds-spot-from-2 : goal.bounds-spot-from-2
-bounds-spot-from-2 c = subst (λ k. k < 25) (sym c.from-2.ensures)
-    (from_room c.args.bundle.now c.args.mv c.requires.0 c.requires.1 c.args.to c.requires.2 c.args.spot.now c.requires.3)
+-- and so is its new cell
+pub exchange-requires-clause-to : goal.exchange-requires-clause-to
+exchange-requires-clause-to c =
+    let moves = c.requires.slides in
+    to_room c.args.bundle.now c.args.slide.mv moves.0 moves.1 c.args.slide.to moves.2
 
--- the blank is written to its new cell within the 25 of a spot
-pub bounds-spot-from-3 : goal.bounds-spot-from-3
-bounds-spot-from-3 c = subst (λ k. k < 25) (sym c.from-3.ensures) (to_room c.args.bundle.now c.args.mv c.requires.0 c.requires.1 c.args.to c.requires.2)
+-- a spot has room for 25 numbers
+pub exchange-requires-clause-room : goal.exchange-requires-clause-room
+exchange-requires-clause-room c = c.requires.slides.4.space
 
--- the sets may follow the blank's move: it is a step of the tile that was read, and the sums are those before it
-pub follow_sets-requires : goal.follow_sets-requires
-follow_sets-requires c = (
-  c.requires.0,
-  c.requires.1,
-  c.args.spot.now.blank,
-  c.args.to,
-  step_is c.args.bundle.now c.args.mv c.requires.0 c.requires.1 c.args.to c.requires.2 c.args.spot.now c.requires.3 c.from.result c.from.ensures,
-  c.requires.3.kept,
-  c.requires.4,
-)
+-- the members that are to follow the blank's move still look up the board before it
+pub follow_sets-requires-clause-step : goal.follow_sets-requires-clause-step
+follow_sets-requires-clause-step c =
+    let moves = c.requires.slides in (
+      moves.0,
+      moves.1,
+      c.args.spot.now.blank,
+      c.args.slide.to,
+      step_is c.args.bundle.now c.args.slide.mv moves.0 moves.1 c.args.slide.to moves.2 c.args.spot.now moves.4 c.args.slide.tile moves.3,
+      λ set low. (moves.4.kept.each set low).are,
+    )
 
--- after the blank's move, the board after it is at the spot, with its numbers, its blank and what is kept
+-- after the blank's move, the board after it is at the spot, with its numbers, its blank, the sums that were given and what is kept
 pub returns : goal.returns
-returns c b next slides is changed =
+returns c b next slides tile is sums =
     let v = c.args.bundle.now in
+    let slide = c.args.slide in
     let spot = c.args.spot.now in
-    let step = step_is v c.args.mv b next c.args.to slides spot is c.from.result c.from.ensures in
+    let step = step_is v slide.mv b next slide.to slides spot is slide.tile tile in
+    let kept = c.follow_sets.ensures.all b next spot.blank slide.to step (λ set low. (is.kept.each set low).are) in
+    let good = next_is v slide.mv b next slide.to slides in
+    let said = sum_said v next c.args.sums c.sets-sets.ensures.bundle good sums in
     record {
-      board = next_is v c.args.mv b next c.args.to slides;
-      space = ap length c.follow_sets.ensures.numbers ∙ length-set _ _ _ ∙ length-set _ _ _ ∙ is.space;
-      numbers = ap (take (v.side * v.side)) c.follow_sets.ensures.numbers ∙
-          numbers_next v c.args.mv b next c.args.to slides spot is c.from.result c.from-2.result c.from-3.result c.from.ensures c.from-2.ensures
-          c.from-3.ensures;
-      blank_is = c.follow_sets.ensures.blank ∙ slides.to_is;
-      kept = c.follow_sets.ensures.kept b next spot.blank c.args.to step is.kept changed;
+      board = good;
+      space = ap length c.exchange.ensures ∙ length-set _ _ _ ∙ length-set _ _ _ ∙ is.space;
+      numbers = ap (take (v.side * v.side)) c.exchange.ensures ∙ numbers_next v slide.mv b next slide.to slides spot is slide.tile tile;
+      blank_is = slides.to_is;
+      kept = record {
+        room = record { sums_room = sums.room; places = c.follow_sets.ensures.room };
+        each = λ set low. record { says = said set low; are = kept set low };
+      };
     }

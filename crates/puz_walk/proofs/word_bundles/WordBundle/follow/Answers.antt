@@ -31,7 +31,7 @@ word-requires c =
       | inr free ↦
           let few = have.few in
           let size = have.size in
-          let far = free.table in
+          let far = free.vacant.table in
           let some = c.if-table-words.true in
           let table = c.from-table.ensures in
           absurd (omega arith)
@@ -64,7 +64,7 @@ returns-then-table-words-clause-each c b next from to step are =
       | inr free ↦
           let few = have.few in
           let size = have.size in
-          let far = free.table in
+          let far = free.vacant.table in
           let some = c.if-table-words.true in
           let table = c.from-table.ensures in
           absurd (omega arith)
@@ -86,7 +86,7 @@ returns-then-table-words-clause-others c other b low ne are =
       | inr free ↦
           let few = have.few in
           let size = have.size in
-          let far = free.table in
+          let far = free.vacant.table in
           let some = c.if-table-words.true in
           let table = c.from-table.ensures in
           absurd (omega arith)

@@ -5,9 +5,10 @@ use Rattle.puz_walk.specs.StoredWordWalks.{word_walk_shown}
 use Rattle.puz_walk.specs.Walks.{LeadsNowhere}
 use Rattle.puz_walk.specs.WordSteps.{IsWordStepFrom}
 use Rattle.puz_walk.proofs.BlankLemmas.{to_room}
-use Rattle.puz_walk.proofs.WordWalkLemmas.{beyond_nowhere, blank_low, board, leads, margin_fits, none_nowhere, slides, some_moves, step_here}
-use Rattle.puz_walk.proofs.WordWalkLemmas.{step_next, stored_next}
-use Rattle.puz_walk.proofs.word_walks.WordWalkWalk.enter.Goals as goal
+use Rattle.puz_walk.proofs.OwnerLemmas.{tile_below}
+use Rattle.puz_walk.proofs.WordWalkLemmas.{beyond_nowhere, blank_low, board, leads, margin_fits, none_nowhere, past_here, slides, some_moves}
+use Rattle.puz_walk.proofs.WordWalkLemmas.{step_here, step_next, stored_next, sums_small, tile_here}
+use Rattle.puz_walk.proofs.word_walks.WordWalk.enter_by.Goals as goal
 
 none_so : {X : Type 0} (P : Type 0) → P → (o : Option X) → IfNone o P
 none_so P h None = h
@@ -38,37 +39,53 @@ bounds-self-inside-from c =
 pub overflow_sub-self-inside : goal.overflow_sub-self-inside
 overflow_sub-self-inside c = margin_fits c.self.inside c.self.invariant
 
+-- on entering, each sum of a walk by edge words has room for one more
+pub judge-requires-clause-small : goal.judge-requires-clause-small
+judge-requires-clause-small c = sums_small c.self.inside c.self.invariant (omega arith)
+
 -- on entering, the words are asked about a step of the tile from the board of which the spot keeps the sums
-pub judge-requires : goal.judge-requires
-judge-requires c =
+pub judge-requires-clause-step : goal.judge-requires-clause-step
+judge-requires-clause-step c =
     let s = c.self.inside in
-    let b = board s c.self.invariant in
     let to = c.in_ok-to.to in
-    let slide = slides s c.self.invariant c.args.mv to c.in_ok-to.ensures in
+    let b = board s c.self.invariant in
     (b, slid b to, s.spot.blank, to, step_here s c.self.invariant c.args.mv to c.in_ok-to.ensures c.from.result c.from.ensures, c.self.invariant.spot.kept)
 
 -- where some set would reach the limit, the walk by edge words is as before, and the move leads nowhere
-pub returns-in_err-change-clause-none : goal.returns-in_err-change-clause-none
-returns-in_err-change-clause-none c =
+pub returns-in_err-sums-clause-none : goal.returns-in_err-sums-clause-none
+returns-in_err-sums-clause-none c =
     let s = c.self.inside in
     let b = board s c.self.invariant in
     let to = c.in_ok-to.to in
-    let slide = slides s c.self.invariant c.args.mv to c.in_ok-to.ensures in
-    let goes = c.in_err-change.ensures.none b (slid b to) s.spot.blank to
+    let goes = c.in_err-sums.ensures.none b (slid b to) s.spot.blank to
     (step_here s c.self.invariant c.args.mv to c.in_ok-to.ensures c.from.result c.from.ensures) c.self.invariant.spot.kept in
     none_so _ (refl, subst (λ w. LeadsNowhere w c.args.mv) c.self.view_is (beyond_nowhere s c.self.invariant c.args.mv to c.in_ok-to.ensures goes))
-    c.from_residual-in_err-change.result
+    c.from_residual-in_err-sums.result
 
--- on entering, the blank may move from the spot of the board, with the change that was found
-pub move_blank-requires : goal.move_blank-requires
-move_blank-requires c =
+-- on entering, the tile of which it is held what its move changes is one of the board
+pub held_of-requires-clause-tile : goal.held_of-requires-clause-tile
+held_of-requires-clause-tile c =
+    let s = c.self.inside in
+    let to = c.in_ok-to.to in
+    let b = board s c.self.invariant in
+    tile_below s.bundle.now.side c.args.mv b (slid b to) _ s.spot.blank to
+    (step_here s c.self.invariant c.args.mv to c.in_ok-to.ensures c.from.result c.from.ensures)
+
+-- on entering, the blank may move from the spot of the board, to one with the sums that were found
+pub move_blank-requires-clause-slides : goal.move_blank-requires-clause-slides
+move_blank-requires-clause-slides c =
     let s = c.self.inside in
     let b = board s c.self.invariant in
     let to = c.in_ok-to.to in
-    let slide = slides s c.self.invariant c.args.mv to c.in_ok-to.ensures in
-    let judged = c.in_ok-change.ensures.some b (slid b to) s.spot.blank to
-    (step_here s c.self.invariant c.args.mv to c.in_ok-to.ensures c.from.result c.from.ensures) c.self.invariant.spot.kept in
-    (b, slid b to, slide, c.self.invariant.spot, judged.0)
+    let judged = c.in_ok-sums.ensures.some b (slid b to) s.spot.blank to
+    (step_here s c.self.invariant c.args.mv to c.in_ok-to.ensures c.from.result c.from.ensures) c.self.invariant.spot.kept in (
+      b,
+      slid b to,
+      slides s c.self.invariant c.args.mv to c.in_ok-to.ensures,
+      tile_here s c.self.invariant c.args.mv to c.in_ok-to.ensures c.from.result c.from.ensures,
+      c.self.invariant.spot,
+      judged.0,
+    )
 
 -- on entering, one move can be taken from the bound of a walk by edge words
 pub overflow_sub-self : goal.overflow_sub-self
@@ -80,10 +97,10 @@ invariant_of-self c =
     let s = c.self.inside in
     let b = board s c.self.invariant in
     let to = c.in_ok-to.to in
-    let slide = slides s c.self.invariant c.args.mv to c.in_ok-to.ensures in
-    let judged = c.in_ok-change.ensures.some b (slid b to) s.spot.blank to
+    let judged = c.in_ok-sums.ensures.some b (slid b to) s.spot.blank to
     (step_here s c.self.invariant c.args.mv to c.in_ok-to.ensures c.from.result c.from.ensures) c.self.invariant.spot.kept in
-    let there = c.move_blank.ensures b (slid b to) slide c.self.invariant.spot judged.0 in
+    let there = c.move_blank.ensures b (slid b to) (slides s c.self.invariant c.args.mv to c.in_ok-to.ensures)
+    (tile_here s c.self.invariant c.args.mv to c.in_ok-to.ensures c.from.result c.from.ensures) c.self.invariant.spot judged.0 in
     stored_next s c.self.invariant c.args.mv to c.in_ok-to.ensures c.move_blank.new.spot there judged.1
 
 -- a move by which no set reaches the limit leads to the next board, with one move less, by the word step that is answered
@@ -92,10 +109,10 @@ returns-clause-some c =
     let s = c.self.inside in
     let b = board s c.self.invariant in
     let to = c.in_ok-to.to in
-    let slide = slides s c.self.invariant c.args.mv to c.in_ok-to.ensures in
-    let judged = c.in_ok-change.ensures.some b (slid b to) s.spot.blank to
+    let judged = c.in_ok-sums.ensures.some b (slid b to) s.spot.blank to
     (step_here s c.self.invariant c.args.mv to c.in_ok-to.ensures c.from.result c.from.ensures) c.self.invariant.spot.kept in
-    let there = c.move_blank.ensures b (slid b to) slide c.self.invariant.spot judged.0 in
+    let there = c.move_blank.ensures b (slid b to) (slides s c.self.invariant c.args.mv to c.in_ok-to.ensures)
+    (tile_here s c.self.invariant c.args.mv to c.in_ok-to.ensures c.from.result c.from.ensures) c.self.invariant.spot judged.0 in
     let small : s.bound < 2 ^ 8 = omega arith in (
       ap (λ w. moved w.board c.args.mv) (sym c.self.view_is) ∙ leads s c.self.invariant c.args.mv to c.in_ok-to.ensures ∙ ap Some (sym there.numbers),
       ap (λ w. w.bundle) c.self.view_is,
@@ -105,6 +122,8 @@ returns-clause-some c =
         spot = c.move_blank.new.spot;
         bound = s.bound - 1;
         margin = s.margin;
-      })) (record { from = s.spot.blank; mv = c.args.mv; change = c.in_ok-change.change })) c.self.view_is
-          (step_next s c.self.invariant c.args.mv to c.in_ok-to.ensures small c.move_blank.new.spot there c.in_ok-change.change judged.0),
+      })) (record { from = s.spot.blank; mv = c.args.mv; past = record { sums = s.spot.sums; held = c.held_of.result } })) c.self.view_is
+          (step_next s c.self.invariant c.args.mv to c.in_ok-to.ensures small c.move_blank.new.spot there _
+          (past_here s c.self.invariant c.args.mv to c.in_ok-to.ensures c.from.result c.from.ensures c.held_of.result
+          (c.held_of.ensures b (λ set low. (c.self.invariant.spot.kept.each set low).are)))),
     )
