@@ -43,7 +43,6 @@ pub fn given_up(files: &mut Vec<Vec<u8>>, fold: bool) -> Option<Vec<Vec<u8>>>
 
 /// What is found over the bundle of table files and a set text, or of why there is none; and the digest lines of the files and of
 /// a last one, where there is one. The lines are made beside the checks and what is looked for, where there are workers for both.
-#[inline(never)] // so that the stack hasn't the values of those who call it
 pub fn over_tables<'t, H, G, A, F>(
     files: TableFiles<'t>,
     last: Option<&'t [u8]>,
@@ -65,15 +64,72 @@ where
         (λ read. F.post find read result.1) }
 {
     let TableFiles { given, kept, fold } = files;
-    let Some(given) = given else {
-        let check = || -> A
-            requires { IfRead fold (all_bytes kept.now) sets.now (F.pre find) }
-            ensures { IsReadAnd fold (all_bytes kept.entry.now) sets.entry.now
-                (λ read. F.post find read result) }
-        { find(bundle_of(parts_of(kept, fold, workers), sets)) };
-        return digested_beside(workers, kept, last, check);
+    match given {
+        Some(given) => over_given_up(given, last, sets, workers, find),
+        None => over_kept(kept, last, Bundling { sets, fold }, workers, find),
+    }
+}
+
+/// What makes a bundle of tables: a set text, and whether each table is folded.
+#[derive(Clone, Copy)]
+struct Bundling<'a> {
+    sets: &'a [u8],
+    fold: bool,
+}
+
+/// As `over_tables` where the bytes of all files stay.
+#[inline(never)] // so that the stack has the values of one way alone
+fn over_kept<'t, H, G, A, F>(
+    files: &'t [Vec<u8>],
+    last: Option<&'t [u8]>,
+    bundling: Bundling<'_>,
+    workers: &Workers<'_, H, G>,
+    find: F,
+) -> (Digested<'t>, A)
+where
+    H: Threads + Wait + Sync,
+    G: Gate + Sync,
+    F: FnOnce(Result<Bundle<'t>, Fault>) -> A,
+    requires { IfRead bundling.fold (all_bytes files.now) bundling.sets.now (F.pre find) }
+    ensures digested { let all = all_files files.entry.now last.entry in
+        digest_lines result.0 ≡ digests_of all }
+    ensures found { let sets = bundling.entry.sets.now in
+        IsReadAnd bundling.entry.fold (all_bytes files.entry.now) sets
+        (λ read. F.post find read result.1) }
+{
+    let check = || -> A
+        requires { IfRead bundling.fold (all_bytes files.now) bundling.sets.now (F.pre find) }
+        ensures { let sets = bundling.entry.sets.now in
+            IsReadAnd bundling.entry.fold (all_bytes files.entry.now) sets
+            (λ read. F.post find read result) }
+    {
+        let parts = parts_of(files, bundling.fold, workers);
+        find(bundle_of(parts, bundling.sets))
     };
-    let (mut digests, parts) = fold_files(given, workers);
+    digested_beside(workers, files, last, check)
+}
+
+/// As `over_tables` where each table is folded, and the bytes of its file are given up.
+#[inline(never)] // so that the stack has the values of one way alone
+fn over_given_up<'t, H, G, A, F>(
+    files: Vec<Vec<u8>>,
+    last: Option<&'t [u8]>,
+    sets: &[u8],
+    workers: &Workers<'_, H, G>,
+    find: F,
+) -> (Digested<'t>, A)
+where
+    H: Threads + Wait + Sync,
+    G: Gate + Sync,
+    F: FnOnce(Result<Bundle<'t>, Fault>) -> A,
+    requires few { length files.items ≤ FILES_BESIDE }
+    requires read { IfRead true (all_bytes files.items) sets.now (F.pre find) }
+    ensures digested { let all = all_files files.items last.entry in
+        digest_lines result.0 ≡ digests_of all }
+    ensures found { IsReadAnd true (all_bytes files.items) sets.entry.now
+        (λ read. F.post find read result.1) }
+{
+    let (mut digests, parts) = fold_files(files, workers);
     let bundle = bundle_of(parts, sets);
     let check = || -> A
         requires { F.pre find bundle }
