@@ -82,7 +82,7 @@ pub(crate) fn judge(
 {
     // Asked only for what its contract says.
     let _sets = bundle.sets();
-    let mut sums = spot.sums;
+    let mut sums = [0; MOST_SETS];
     let mut is_below = true;
     for set in 0..sets {
         let sum = bundle.sum_after(spot, set, slide.tile, slide.mv);

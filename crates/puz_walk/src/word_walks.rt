@@ -41,9 +41,9 @@ impl<'a> Model for WordWalk<'a> {
 /// A step of a walk, by which it is taken back: where the blank was, how it went, and what was kept before.
 #[derive(Clone, Copy)]
 pub struct WordStep {
+    past: Past,
     from: u8,
     mv: Move,
-    past: Past,
 }
 
 impl<'a> WordWalk<'a> {
@@ -98,7 +98,7 @@ impl<'a> WordWalk<'a> {
         };
         move_blank(bundle, &mut self.spot, slide, sums, sets);
         self.bound -= 1;
-        Some(WordStep { from, mv, past })
+        Some(WordStep { past, from, mv })
     }
 
     /// Takes a step back, as a walk does. It is given how many sets there are.
