@@ -16,7 +16,7 @@ use crate::prefixes::Prefix;
 use crate::searches::Search;
 use crate::walks::Reached;
 use move_strings::BoundPart;
-use puz_walk::{Start, SumWalk, Walk, WordWalk};
+use puz_walk::{SetWalk, Start, SumWalk, Walk, WordBundle, WordWalk};
 
 /// A part of a bound.
 #[derive(Clone, Copy, Debug, PartialEq, Eq)]
@@ -128,8 +128,35 @@ pub(crate) fn refute_node(task: &Search<'_>, node: &Node, effort: &mut Effort) -
             let walk = SumWalk::new(bundle, &node.board, node.bound);
             refute_by_walk(task, node, walk, effort)
         }
-        Sets::Words(words) => {
-            let walk = WordWalk::new(words, &node.board, &node.sums, node.bound);
+        Sets::Words(words) => refute_over_words(task, node, words, effort),
+    }
+}
+
+/// The same over words. One set, as two, has code of its own, where the compiler knows the number.
+fn refute_over_words(
+    task: &Search<'_>,
+    node: &Node,
+    words: &WordBundle<'_>,
+    effort: &mut Effort,
+) -> SearchAnswer
+    requires words { words.now ≡ task.now.guide.now.bundle }
+    requires placed { IsPlaced task.now node.now }
+    requires none { effort.old.letters.items ≡ [] }
+    ensures { IsPartAnswer (node_fails task.now node.now) (most_boards node.now.bound)
+        (solves_below node.now) effort.old.left result }
+{
+    let (board, sums, bound) = (&node.board, &node.sums, node.bound);
+    match words.sets() {
+        1 => {
+            let walk = SetWalk::<1>::new(words, board, sums, bound);
+            refute_by_walk(task, node, walk, effort)
+        }
+        2 => {
+            let walk = SetWalk::<2>::new(words, board, sums, bound);
+            refute_by_walk(task, node, walk, effort)
+        }
+        _ => {
+            let walk = WordWalk::new(words, board, sums, bound);
             refute_by_walk(task, node, walk, effort)
         }
     }

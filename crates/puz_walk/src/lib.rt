@@ -8,6 +8,7 @@ mod outlines;
 mod owners;
 mod pasts;
 mod seats;
+mod set_walks;
 mod starts;
 mod sum_walks;
 mod tallies;
@@ -18,6 +19,7 @@ mod word_spots;
 mod word_walks;
 
 pub use outlines::Outline;
+pub use set_walks::SetWalk;
 pub use starts::Start;
 pub use sum_walks::{SumStep, SumWalk};
 pub use walks::Walk;

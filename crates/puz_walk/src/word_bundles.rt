@@ -64,7 +64,7 @@ impl<'a> WordBundle<'a> {
 
     /// How many sets there are.
     #[inline]
-    pub(crate) fn sets(&self) -> u8
+    pub fn sets(&self) -> u8
         ensures sets { result ≡ length self.now.sets }
         ensures bundle { IsBundle self.now }
         ensures few { length self.now.tables ≤ most_worded }

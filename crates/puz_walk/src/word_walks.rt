@@ -77,7 +77,7 @@ impl<'a> WordWalk<'a> {
 
     /// Enters, as a walk does. It is given how many sets there are.
     #[inline(always)]
-    fn enter_by(&mut self, mv: Move, sets: u8) -> Option<WordStep>
+    pub(crate) fn enter_by(&mut self, mv: Move, sets: u8) -> Option<WordStep>
         requires { sets ≡ length self.old.bundle.sets }
         ensures none { IfNone result ((self.new ≡ self.old) × LeadsNowhere self.old mv) }
         ensures some { IfSome result (λ step.
@@ -103,7 +103,7 @@ impl<'a> WordWalk<'a> {
 
     /// Takes a step back, as a walk does. It is given how many sets there are.
     #[inline(always)]
-    fn leave_by(&mut self, step: &WordStep, sets: u8)
+    pub(crate) fn leave_by(&mut self, step: &WordStep, sets: u8)
         requires sets { sets ≡ length self.old.bundle.sets }
         requires step { (walk : ShownWalk) × IsWordStepFrom walk self.old step.now }
         ensures { (walk : ShownWalk) → IsWordStepFrom walk self.old step.now → self.new ≡ walk }
@@ -140,23 +140,16 @@ impl<'a> Walk for WordWalk<'a> {
         self.spot.sums
     }
 
-    // The loops over one or two sets run to a number that the compiler knows, and so to no loop.
     #[inline(always)]
     fn enter(&mut self, mv: Move) -> Option<WordStep> {
-        match self.bundle.sets() {
-            1 => self.enter_by(mv, 1),
-            2 => self.enter_by(mv, 2),
-            sets => self.enter_by(mv, sets),
-        }
+        let sets = self.bundle.sets();
+        self.enter_by(mv, sets)
     }
 
     #[inline(always)]
     fn leave(&mut self, step: &WordStep) {
-        match self.bundle.sets() {
-            1 => self.leave_by(step, 1),
-            2 => self.leave_by(step, 2),
-            sets => self.leave_by(step, sets),
-        }
+        let sets = self.bundle.sets();
+        self.leave_by(step, sets);
     }
 }
 
