@@ -129,6 +129,10 @@ pub(crate) fn refute_node(task: &Search<'_>, node: &Node, effort: &mut Effort) -
             refute_by_walk(task, node, walk, effort)
         }
         Sets::Words(words) => refute_over_words(task, node, words, effort),
+        Sets::Mixed(mixed) => {
+            let walk = SumWalk::over(mixed, &node.board, node.bound);
+            refute_by_walk(task, node, walk, effort)
+        }
     }
 }
 

@@ -4,6 +4,7 @@
 #![tactic(auto)]
 
 mod cuts;
+mod mixed_bundles;
 mod outlines;
 mod owners;
 mod pasts;
@@ -18,6 +19,7 @@ mod word_bundles;
 mod word_spots;
 mod word_walks;
 
+pub use mixed_bundles::MixedBundle;
 pub use outlines::Outline;
 pub use set_walks::SetWalk;
 pub use starts::Start;
