@@ -15,7 +15,7 @@ use Rattle.puz_board.proofs.HasLemmas.{has-get}
 use Rattle.pat_place.specs.Patterns.{IsPattern, ShownPattern, most_tiles}
 use Rattle.tab_rule.specs.declared.tables.Count.TheVariants.{Finite}
 use Rattle.edge_words.specs.Spots.{IsIndexStep, IsStepOf, IsTileStep, index_on}
-use Rattle.edge_words.specs.Words.{IsEdgeWord, IsTileMove, RisesOrFalls, ShownWords, bit_number}
+use Rattle.edge_words.specs.Words.{IsEdgeWord, RisesOrFalls, ShownWords, bit_number}
 use Rattle.set_sum.specs.Bundles.{ShownBundle, BundleSays, IsBundle, IsSetOf, set_of}
 use Rattle.set_sum.specs.Members.{MemberSays, board_for, table_of, table_pattern}
 use Rattle.set_sum.specs.declared.members.Member.{Member}

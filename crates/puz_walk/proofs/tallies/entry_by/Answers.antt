@@ -1,8 +1,7 @@
-use Rattle.std.proofs.Common.{◌≡◌, ℕ, ◌+◌, ◌-◌, ◌<◌, List, length, sym, ap, subst, arith}
+use Rattle.std.proofs.Common.{◌≡◌, ℕ, ◌+◌, ◌-◌, ◌<◌, length, sym, subst, arith}
 use Rattle.puz_board.specs.Boards.{IsBoardOf}
 use Rattle.puz_board.specs.Costs.{IsLeastCost}
 use Rattle.tab_rule.specs.Counts.{AreCellsOf}
-use Rattle.tab_rule.specs.declared.tables.Count.TheVariants.{Finite}
 use Rattle.edge_words.specs.Words.{IsTileMove, RisesOrFalls}
 use Rattle.set_sum.specs.Known.{said_by}
 use Rattle.set_sum.specs.Members.{MemberSays, board_for, table_of, table_pattern}
