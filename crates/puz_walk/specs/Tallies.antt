@@ -51,7 +51,7 @@ pub record IsSlideOf (v : ShownBundle) (b next : List ℕ) (tile : ℕ) : Type 0
   pub leads : slid b (blank next) ≡ next
   pub tile_is : tile ≡ at b (blank next)
 
--- by the move of the board, on the boards that the owner looks up its own tile moves
+-- where the move leads from board b to the next one, it moves the owner's own tile on the boards that the owner looks up
 abbrev pub IsMoveOf : ShownBundle → Owner → Move → List ℕ → List ℕ → Type 0
 IsMoveOf v owner move b next =
     IsTileMove (pattern_at v owner.member.table) owner.tile (move_for owner.member move) (board_for owner.member b) (board_for owner.member next)

@@ -35,6 +35,8 @@ mod made_lemmas;
 #[cfg(test)]
 mod many_lemmas;
 #[cfg(test)]
+mod mixed;
+#[cfg(test)]
 mod parity;
 #[cfg(test)]
 mod parts;

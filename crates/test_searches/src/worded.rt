@@ -4,7 +4,7 @@ ghost use Rattle.std.specs.Prelude.{◌≡◌};
 ghost use Rattle.puz_walk.specs.Starts.{IsStart};
 
 use crate::bundles::bundle;
-use crate::finding::{built, searched_table};
+use crate::finding::{board_of, built, searched_table};
 use crate::guided::{of_strings, reversals, scrambled};
 use crate::same::{same, same_for};
 use crate::small_searches::{Told, tell, with_two_exchanged};
@@ -28,7 +28,7 @@ use work_run::{OpenGate, Workers};
 pub(crate) const PLENTY: u64 = 1 << 30;
 
 /// Two boards of side 4 that are far from the goal board.
-const FAR: [[u8; 16]; 2] = [
+pub(crate) const FAR: [[u8; 16]; 2] = [
     [4, 14, 8, 11, 0, 9, 5, 7, 15, 1, 6, 12, 3, 10, 13, 2],
     [15, 2, 12, 11, 14, 13, 9, 5, 1, 3, 8, 7, 0, 10, 6, 4],
 ];
@@ -38,15 +38,24 @@ pub(crate) fn words_of<R: Threads + Wait + Sync + AllocGlobal + Abort>(
     rt: &R,
     bundle: &Bundle<'_>,
 ) -> Result<Vec<Words>, AllocError> {
-    let workers = Workers::new(rt, rt.alloc(), 2, &OpenGate);
     let mut words = Vec::new(rt.alloc());
     for table in 0..bundle.tables() {
-        if let Part::Full(table) = bundle.part(table) {
-            let found = Words::of(table, &workers)?;
-            words.push(found.expect(rt, "words"))?;
-        }
+        let found = words_of_table(rt, bundle.part(table))?;
+        words.push(found.expect(rt, "a full table"))?;
     }
     Ok(words)
+}
+
+/// The words of a table, unless it is folded.
+pub(crate) fn words_of_table<R: Threads + Wait + Sync + AllocGlobal + Abort>(
+    rt: &R,
+    table: &Part<'_>,
+) -> Result<Option<Words>, AllocError> {
+    let workers = Workers::new(rt, rt.alloc(), 2, &OpenGate);
+    match table {
+        Part::Full(table) => Ok(Some(Words::of(table, &workers)?.expect(rt, "words"))),
+        Part::Folded(_) => Ok(None),
+    }
 }
 
 /// What so many workers tell of a start, led by a guide.
@@ -113,7 +122,7 @@ fn compare<R: Threads + Wait + Sync + AllocGlobal + Abort>(
 }
 
 /// Compares the searches of all boards below all bounds: how many boards they expand.
-fn compare_all<R: Threads + Wait + Sync + AllocGlobal + Abort>(
+pub(crate) fn compare_all<R: Threads + Wait + Sync + AllocGlobal + Abort>(
     rt: &R,
     bundle: &Bundle<'_>,
     sums: &Guide<'_>,
@@ -170,14 +179,19 @@ fn expanded<R: Threads + Wait + Sync + AllocGlobal + Abort>(
     Ok([short, long])
 }
 
-#[test]
-fn all_boards_of_side_2_are_searched_alike(rt: HostRuntime) -> Result<(), Fail> {
+/// All boards of side 2.
+pub(crate) fn boards_of_side_2<R: AllocGlobal + Abort>(rt: &R) -> Result<Vec<Board>, AllocError> {
     let mut boards = Vec::new(rt.alloc());
     for numbers in &RING {
-        boards.push(Board::from_cells(numbers).expect(&rt, "a board"))?;
-        let odd = with_two_exchanged(&rt, numbers);
-        boards.push(Board::from_cells(&odd).expect(&rt, "a board"))?;
+        boards.push(board_of(rt, numbers))?;
+        boards.push(board_of(rt, &with_two_exchanged(rt, numbers)))?;
     }
+    Ok(boards)
+}
+
+#[test]
+fn all_boards_of_side_2_are_searched_alike(rt: HostRuntime) -> Result<(), Fail> {
+    let boards = boards_of_side_2(&rt)?;
     let files: [&[u8]; 2] = [&TILE_1, &TILE_3];
     let sets: [&[u8]; 3] = [b"set 0 1\n", b"set 0 0t 1\n", b"set 1\nset 0t 1t\n"];
     for text in sets {
@@ -207,7 +221,7 @@ fn boards_of_side_3_are_searched_alike(rt: HostRuntime) -> Result<(), Fail> {
 }
 
 /// The table of a mask of tiles of side 4.
-fn table_of<R: Threads + Sync + AllocGlobal + Abort>(rt: &R, mask: u32) -> Vec<u8> {
+pub(crate) fn table_of<R: Threads + Sync + AllocGlobal + Abort>(rt: &R, mask: u32) -> Vec<u8> {
     built(rt, 4, mask)
 }
 
