@@ -37,14 +37,14 @@ module _ (p : ShownPattern) (pat : IsPattern p) (cells : List ℕ) (run : IsRun 
 
     -- without an origin in the run
     pub front_none : HasNoOrigin p cells index move → TellsOfMove p (with_last cells last) index move false
-    front_none none = no_origin_tells p pat (with_last cells last) index move (λ from step.
+    front_none none = no_origin_tells p pat (with_last cells last) index move false (λ from step.
         has-with_last cells last from ∙ or_left (has cells from) (eqb last from)
         (none from (ap (λ c. step_of p.side c (reverse_of move)) (sym at_front) ∙ step)))
 
     -- where the last tile is in the way of a move
-    pub front_taken : (from : ℕ) → step_of p.side (slice_index cells index) (reverse_of move) ≡ Some from → from ≡ last
-        → TellsOfMove p (with_last cells last) index move false
-    front_taken from step blocked = no_origin_tells p pat (with_last cells last) index move (λ other leads.
+    pub front_taken : (rises : Bool) (from : ℕ) → step_of p.side (slice_index cells index) (reverse_of move) ≡ Some from → from ≡ last
+        → TellsOfMove p (with_last cells last) index move rises
+    front_taken rises from step blocked = no_origin_tells p pat (with_last cells last) index move rises (λ other leads.
         let same : other ≡ from = Some-one other from (sym leads ∙ ap (λ c. step_of p.side c (reverse_of move)) at_front ∙ step) in
         ap (has (with_last cells last)) (same ∙ blocked) ∙ with_last-here cells last)
 
@@ -57,7 +57,7 @@ module _ (p : ShownPattern) (pat : IsPattern p) (cells : List ℕ) (run : IsRun 
 
       -- where the last tile is in its way
       pub front_blocked : near.from ≡ last → TellsOfMove p (with_last cells last) index move false
-      front_blocked = front_taken near.from is.step
+      front_blocked = front_taken false near.from is.step
 
       -- before the move
       pub front_before : near.from ≢ last → IsOpen p.side cells near.from last
@@ -132,7 +132,7 @@ module _ (p : ShownPattern) (pat : IsPattern p) (cells : List ℕ) (run : IsRun 
     -- where the move leads from no free cell to the last tile's, no board has it, and the answer false tells of it
     pub last_none : ((from : ℕ) → step_of p.side last (reverse_of move) ≡ Some from → IsFree p.side cells from → ⊥)
         → TellsOfMove p (with_last cells last) (length p.tiles - 1) move false
-    last_none none = no_origin_tells p pat (with_last cells last) (length p.tiles - 1) move (λ from step.
+    last_none none = no_origin_tells p pat (with_last cells last) (length p.tiles - 1) move false (λ from step.
         not_free from (ap (λ c. step_of p.side c (reverse_of move)) (sym at_last) ∙ step) (none from))
       where
         not_free : (from : ℕ) → step_of p.side last (reverse_of move) ≡ Some from

@@ -11,7 +11,6 @@ use Rattle.tab_runs.specs.Runs.{with_last}
 use Rattle.edge_words.specs.Indexes.{index_in}
 use Rattle.edge_words.specs.Lookups.{IsRunOf, but_last}
 use Rattle.edge_words.specs.Words.{IsEdgeWord, TellsOfMove, move_of}
-use Rattle.edge_words.specs.declared.edges.Earlier.{Earlier}
 use Rattle.edge_words.specs.declared.edges.Near.{Near}
 
 -- the move takes the blank to the tile with this index from a free cell, and leads to this run
@@ -28,14 +27,12 @@ pub record AreBefore (p : ShownPattern) (cells before : List ℕ) : Type 0 where
       → gap * (p.side * p.side) ≤ length before
       → IsEdgeWord p (with_last others last) (slice_index before (length before - gap * (p.side * p.side) + last))
 
--- the move with this number takes the blank to its tile from a free cell, and the words have the bits of the move back
-pub record IsEarlier (p : ShownPattern) (cells : List ℕ) (number : ℕ) (earlier : Earlier) : Type 0 where
+-- where the bit of the move back is clear in the words of the run after it, the move with this number raises the least cost
+pub record AreEarlier (p : ShownPattern) (cells : List ℕ) (number : ℕ) (words : List ℕ) : Type 0 where
   pub odd : number % 2 ≡ 1
-  pub step : step_of p.side (slice_index cells (number / 4)) (reverse_of (move_of number)) ≡ Some earlier.from
-  pub free : IsFree p.side cells earlier.from
-  pub room : length earlier.words.now ≡ p.side * p.side
-  pub bits : (last : ℕ) → IsFree p.side cells last → last ≢ earlier.from
-      → TellsOfMove p (with_last cells last) (number / 4) (move_of number) (not (has_bit (slice_index earlier.words.now last) (number - 1)))
+  pub room : length words ≡ p.side * p.side
+  pub bits : (last : ℕ) → IsFree p.side cells last
+      → TellsOfMove p (with_last cells last) (number / 4) (move_of number) (not (has_bit (slice_index words last) (number - 1)))
 
 -- the move takes the blank to that tile from no free cell
 abbrev pub HasNoOrigin : ShownPattern → List ℕ → ℕ → Move → Type 0

@@ -1,18 +1,18 @@
-use Rattle.std.proofs.Common.{◌≡◌, ℕ, ◌+◌, ◌-◌, ◌*◌, ◌/◌, ◌%◌, ◌^◌, ◌<◌, drop, length, get_or, sym, ◌∙◌, ap, ap₂, arith, length-drop}
+use Rattle.std.proofs.Common.{◌≡◌, ℕ, ◌+◌, ◌-◌, ◌*◌, ◌/◌, ◌%◌, ◌^◌, ◌<◌, inl, inr, drop, length, get_or, sym, ◌∙◌, ap, ap₂, arith, length-drop}
 use Rattle.std.specs.Prelude.{slice_index}
-use Rattle.std.proofs.lemmas.Bool.{false_from_ne_true}
+use Rattle.std.proofs.lemmas.Bool.{cases_eq, false_from_ne_true}
 use Rattle.std.proofs.lemmas.List.{get_or-take, length-take-le}
 use Rattle.puz_board.specs.Cells.{reverse_of, step_of}
 use Rattle.pat_place.specs.Patterns.{has}
 use Rattle.pat_place.specs.Placements.{IsFree}
 use Rattle.edge_words.specs.Lookups.{but_last}
 use Rattle.edge_words.specs.Words.{move_of}
-use Rattle.edge_words.proofs.RunMoveLemmas.{down, earlier_bits, gap_least}
+use Rattle.edge_words.proofs.RunMoveLemmas.{down, earlier_bits, front_taken, gap_least}
 use Rattle.edge_words.proofs.edges.earlier_of.Goals as goal
 
 -- the words of the earlier run end where the words before the run do, or before that
-pub slice_bounds-words-end : goal.slice_bounds-words-end
-slice_bounds-words-end c =
+pub slice_bounds-result-end : goal.slice_bounds-result-end
+slice_bounds-result-end c =
     let p = c.args.lookup.now in
     let pat = c.pattern.ensures.is_pattern in
     let cells = but_last p c.args.run.now.cells in
@@ -70,9 +70,11 @@ returns c =
     let all : many ≡ p.side * p.side = omega arith in
     record {
       odd = odd;
-      step = step;
-      free = free;
       room = length-take-le many (drop start before) (let d = length-drop start before in omega arith) ∙ all;
-      bits = earlier_bits p pat cells run number from odd low step c.stride.result stride c.pattern.ensures.entries free before c.requires.before
-          (omega arith) start many (omega arith) all;
+      bits = λ last there. elim (cases_eq from last) [
+        | inl e ↦ front_taken p pat cells run last there (number / 4) (move_of number) low _ from step e
+        | inr ne ↦
+            earlier_bits p pat cells run number from odd low step c.stride.result stride c.pattern.ensures.entries free before
+            c.requires.before (omega arith) start many (omega arith) all last there (λ e. ne (sym e))
+      ];
     }

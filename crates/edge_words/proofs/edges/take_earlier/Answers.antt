@@ -1,17 +1,12 @@
-use Rattle.std.proofs.Common.{◌≡◌, ◌-◌, ◌*◌, ◌/◌, ◌<◌, ◌&&◌, length, not, inl, inr, sym, ◌∙◌, ap, ap₂, subst, arith}
+use Rattle.std.proofs.Common.{◌≡◌, ◌-◌, ◌*◌, ◌/◌, ◌<◌, length, not, sym, ◌∙◌, ap, ap₂, subst, arith}
 use Rattle.std.specs.Prelude.{slice_index}
-use Rattle.std.proofs.lemmas.Bool.{cases_eq}
-use Rattle.puz_board.specs.Masks.{IsMaskOf, has_bit}
+use Rattle.puz_board.specs.Masks.{has_bit}
 use Rattle.puz_board.proofs.CellLemmas.{few_cells}
-use Rattle.pat_place.specs.Placements.{IsFree}
 use Rattle.tab_runs.specs.Runs.{with_last}
-use Rattle.tab_runs.proofs.RunLemmas.{free-with_last, with_last-free}
 use Rattle.edge_words.specs.Edges.{IsWith}
 use Rattle.edge_words.specs.Lookups.{but_last}
 use Rattle.edge_words.specs.Words.{TellsOfMove, move_of}
-use Rattle.edge_words.proofs.LookupLemmas.{mask_open}
-use Rattle.edge_words.proofs.RunMoveLemmas.{front_taken}
-use Rattle.edge_words.proofs.WordLemmas.{bit_is, bits_all, bits_next, bits_start, rise_where}
+use Rattle.edge_words.proofs.WordLemmas.{bit_is, bits_all, bits_next, bits_start}
 use Rattle.edge_words.proofs.edges.take_earlier.Goals as goal
 
 -- before the first last cell, no word has the bit of the move
@@ -32,23 +27,14 @@ loop-last-preserved c =
     let side = c.side.ensures.side ∙ ap (λ q. q.side) c.pattern.ensures.pattern in
     let count : c.cells-cells.result ≡ p.side * p.side = c.cells-cells.ensures.value ∙ ap₂ (λ m n. m * n) side side in
     let within = c.loop-last-test.true in
-    let low : number / 4 < length cells = (let t = c.requires.tile in let size = run.size in omega arith) in
-    let mask : IsMaskOf c.without-open.result (IsFree p.side (with_last cells earlier.from)) =
-    mask_open p.side (omega arith) cells c.args.run.now.free c.without-open.result earlier.from c.requires.run.free
-    c.without-open.type_inv c.without-open.ensures.here c.without-open.ensures.others in
-    let falls : c.has_cell-falls.result ≡ has_bit (slice_index earlier.words.now last) (number - 1) =
-    bit_is c.has_cell-falls.result (slice_index earlier.words.now c.from.result) (number - 1) c.has_cell-falls.ensures
-    ∙ ap (λ i. has_bit (slice_index earlier.words.now i) (number - 1)) c.from.ensures in
-    bits_next p cells number last c.loop-last.words c.loop-last.invariant (omega arith) (c.has_cell.result && not c.has_cell-falls.result)
-    (λ free. rise_where (TellsOfMove p (with_last cells last) (number / 4) (move_of number)) c.has_cell.result c.has_cell-falls.result
-    (λ t. subst (λ r. TellsOfMove p (with_last cells last) (number / 4) (move_of number) (not r)) (sym falls)
-    (c.requires.earlier.bits last free (with_last-free p.side cells earlier.from last ((mask last).0 (c.has_cell.ensures.0 t))).1))
-    (λ f. elim (cases_eq earlier.from last) [
-      | inl e ↦ front_taken p pat cells run last free (number / 4) (move_of number) low earlier.from c.requires.earlier.step e
-      | inr ne ↦ absurd (let test = c.has_cell.ensures.1 ((mask last).1 (free-with_last p.side cells earlier.from last free (λ e. ne (sym e)))) in cc)
-    ]))
+    let falls : c.has_cell-falls.result ≡ has_bit (slice_index earlier last) (number - 1) =
+    bit_is c.has_cell-falls.result (slice_index earlier c.from.result) (number - 1) c.has_cell-falls.ensures
+    ∙ ap (λ i. has_bit (slice_index earlier i) (number - 1)) c.from.ensures in
+    bits_next p cells number last c.loop-last.words c.loop-last.invariant (omega arith) (not c.has_cell-falls.result)
+    (λ free. subst (λ r. TellsOfMove p (with_last cells last) (number / 4) (move_of number) (not r)) (sym falls)
+    (c.requires.earlier.bits last free))
     c.from-in-loop-last-2.result c.noted.result c.from-in-loop-last-2.ensures
-    (subst (λ i. IsWith (c.has_cell.result && not c.has_cell-falls.result) number (slice_index c.loop-last.words i) c.noted.result)
+    (subst (λ i. IsWith (not c.has_cell-falls.result) number (slice_index c.loop-last.words i) c.noted.result)
     (c.from-in-loop-last.ensures ∙ sym c.from-in-loop-last-2.ensures) c.noted.ensures)
 
 -- after all last cells, the words tell of the move too
