@@ -865,13 +865,33 @@ rm -f made
 # Without either the search goes on, so the answer is the same.
 "$bare" make-table 3 14 three_of_side_3 >/dev/null
 echo '8 0 6 5 4 7 2 3 1 : 27' >hard_claim
-for which in LAST=100 EVERY=997; do
+# With those requests refused in turn that a word as LAST=100 says: does_without WHICH CLAIMS SETS FILE..
+does_without() {
+    local which=$1
+    shift
     status=0
-    env PROGRAM="$bare" "$which" "$root/tools/checks/refuse_memory.sh" prove hard_claim one_set three_of_side_3 \
+    env PROGRAM="$bare" "$which" "$root/tools/checks/refuse_memory.sh" prove "$@" \
         </dev/null >"$work/output" 2>"$work/errors" || status=$?
-    check "requests of a hard claim are refused, $which" [ "$status" = 0 ]
-    check "a hard claim does without help, $which" told 'no memory: 0, '
+    check "requests of $* are refused, $which" [ "$status" = 0 ]
+    check "$* does without help, $which" told 'no memory: 0, '
+}
+does_without LAST=100 hard_claim one_set three_of_side_3
+does_without EVERY=997 hard_claim one_set three_of_side_3
+
+# More than 8 tables stay beside their words, with which the last 180 requests or so begin. This board is 31 moves from the goal board,
+# and no set says much of it.
+nine_of_side_3=()
+for mask in 2 4 8 16 32 64 128 256; do
+    "$bare" make-table 3 "$mask" "side_3_$mask" >/dev/null
+    nine_of_side_3+=("side_3_$mask")
 done
+nine_of_side_3+=(three_of_side_3)
+printf 'set %s\n' '0 1 2' '3 4t 5' '6t 7t' 8 >sets_of_nine
+printf '8 0 6 5 4 7 2 3 1%s\n' ' : 31' ' ; DDLURRULLDRRDLLURURDDLUURDDLLUU' >hard_claims
+answers_of_nine=('bound 31 of 8 0 6 5 4 7 2 3 1' 'optimal 31 of 8 0 6 5 4 7 2 3 1 ; DDLURRULLDRRDLLURURDDLUURDDLLUU')
+proves hard_claims sets_of_nine "${nine_of_side_3[*]}" 0 "${answers_of_nine[@]}" :
+proves hard_claims sets_of_nine "${nine_of_side_3[*]}" 0 "${answers_of_nine[@]}" : --workers 4
+does_without LAST=200 hard_claims sets_of_nine "${nine_of_side_3[@]}"
 
 #
 # The stack.
@@ -923,12 +943,14 @@ limit_stack prove false_claims sixteen_mirrors "${most_tables[@]}" --workers 64 
 limit_stack prove false_claims sixteen_mirrors "${most_tables[@]}" --workers 64
 limit_stack prove other_part_claims one_set "${most_tables[@]}" --workers 64
 limit_stack prove true_claims one_set F12 F12 F12 F12 F12 F12 F12 F12 --workers 64
-# For this claim words are made.
+# For this claim words are made, of so many tables beside them.
 limit_stack prove hard_claim one_set three_of_side_3 --workers 64
+sixteen_of_side_3=("${nine_of_side_3[@]}" "${nine_of_side_3[@]:2}")
+limit_stack prove hard_claims sets_of_nine "${sixteen_of_side_3[@]}" --workers 64
 skipped='5 of 5'
 limit_stack parts board 6 65535 part_lines
 skipped=
-rm -f made hard_claim
+rm -f made hard_claim hard_claims
 
 #
 # Progress.

@@ -156,6 +156,23 @@ for sets in 9 16; do
     gives_up 4 "none_of_$sets" "$six_six_three" --budget 2000000
 done
 
+# Over nine tables `prove` makes edge words beside the tables, for sums of three, of five and of one of them.
+nine_tables=$three_of_five
+for mask in 14 112 896 7168 57344 4368; do
+    "$bare" make-table 4 "$mask" "tiles_$mask" >/dev/null
+    nine_tables+=" tiles_$mask"
+done
+printf 'set %s\n' '0 1 2' '3 4 5 6 7' '3t 4t 5t 6t 7t' 8 '0t 1t 2t' >sets_of_nine
+sed -n '2p;17p;88p' "$root/docs/results/korf_1985.claims" >korf_claims
+mapfile -t answers < <(grep -Ff korf_claims "$root/docs/results/korf_1985.answers")
+# shellcheck disable=SC2086
+digest_lines $nine_tables korf_claims
+for workers in 1 4; do
+    # shellcheck disable=SC2086
+    expect "prove over nine tables by $workers workers" 0 "${told[@]}" "${answers[@]}" : \
+        prove korf_claims sets_of_nine $nine_tables --workers "$workers"
+done
+
 # One lemma of 20 megabytes. With a greater bound its tree has a leaf that doesn't hold.
 cc -O2 -march=x86-64-v2 -o "$work/make_log" "$root/benches/peers/make_log.c" || exit 2
 # shellcheck disable=SC2086

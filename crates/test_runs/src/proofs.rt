@@ -259,15 +259,26 @@ fn large_files(alloc: Global) -> Result<MemShelf, AllocError> {
 const LARGE_ABOVE: &str =
     "refused K1 of 8 7 6 0 4 1 2 5 3 : 23\noptimal 1 of 1 0 2 3 4 5 6 7 8 ; L\n";
 
-#[test]
-fn a_large_search_says_the_same_for_each_number_of_workers(rt: HostRuntime) -> Result<(), Fail> {
-    let mut shelf = large_files(rt.alloc())?;
+/// A run of a large search on these names says the same by 1, 2, 7 and 64 workers, whole and with one board too few.
+fn expect_large<H: Threads + Wait + Sync>(rt: &H, alloc: Global, names: &str) -> Result<(), Fail> {
+    let mut shelf = large_files(alloc)?;
     let cases = [("", LARGE_LINES, 0), (" --budget 65537", LARGE_ABOVE, 1)];
     for (budget, lines, status) in cases {
-        let words = ("large sets f4", budget);
-        expect_by_all(&rt, rt.alloc(), words, &mut shelf, (lines, status))?;
+        let words = (names, budget);
+        expect_by_all(rt, alloc, words, &mut shelf, (lines, status))?;
     }
     Ok(())
+}
+
+#[test]
+fn a_large_search_says_the_same_for_each_number_of_workers(rt: HostRuntime) -> Result<(), Fail> {
+    expect_large(&rt, rt.alloc(), "large sets f4")
+}
+
+#[test]
+fn a_large_search_over_nine_tables_expands_as_many_boards(rt: HostRuntime) -> Result<(), Fail> {
+    // Of so many tables there are words, but the tables stay.
+    expect_large(&rt, rt.alloc(), "large sets f4 f4 f4 f4 f4 f4 f4 f4 f4")
 }
 
 /// Counts the searches of boards below bounds.
@@ -343,6 +354,16 @@ fn a_claim_is_searched_for_anew_over_words_where_it_takes_many_boards(
         ("twice sets small --fold --workers 2", 2),
         // A third of the 362,889 placements are 120,963: the first claim takes fewer boards, but both take more together.
         ("twice sets small great great --workers 2", 3),
+        // Nine tables stay when their words are made, and all of them count.
+        (
+            "twice sets small small small small small small small great great --workers 2",
+            3,
+        ),
+        // A third of these 544,374 placements are 181,458: both claims take fewer boards together.
+        (
+            "twice sets small small small small small small great great great",
+            2,
+        ),
     ];
     for (words, searches) in cases {
         let found = searches_of(&rt, rt.alloc(), words, &mut shelf)?;

@@ -6,7 +6,7 @@ use Rattle.set_sum.specs.Bundles.{ShownBundle}
 use Rattle.puz_walk.specs.WordBundles.{HasWords}
 use Rattle.pdb_run.specs.Answers.{all_bytes}
 use Rattle.pdb_verdict.specs.FileBundles.{IsBundleOfFiles}
-use Rattle.pdb_prove.proofs.prepared.Prepared.fill.Given as goal
+use Rattle.pdb_prove.proofs.prepared.AllRooms.fill.Given as goal
 
 -- the words are those of the files so far, and the memory for the others is left
 abbrev pub invariant-loop-file : goal.invariant-loop-file
