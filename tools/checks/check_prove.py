@@ -299,18 +299,27 @@ def budgets(program, checks, claims, tables):
 
 
 def large_budgets(program, checks):
-    """A bound that takes more boards than one thread searches alone: the least budget is the same for all workers."""
-    program.table("three_tiles", 3, 14)
-    program.keep("one_set", b"set 0\n")
-    claim = Claim((8, 0, 6, 5, 4, 7, 2, 3, 1), bound=29)
-    files = [(program.folder / "three_tiles").read_bytes()]
-    search = Search(read_sets(b"set 0\n", read_tables(files, False)), program.strings)
+    """Bounds that take more boards than one thread searches alone: the least budget is the same for all workers. Over one table all
+    words are made of it, over nine they are made beside them."""
+    masks = [2**tile for tile in range(1, 9)] + [14]
+    tables = [f"side_3_{mask}" for mask in masks]
+    for table, mask in zip(tables, masks):
+        program.table(table, 3, mask)
+    large_budget(program, checks, b"set 0\n", tables[-1:], 29)
+    large_budget(program, checks, b"set 0 1 2\nset 3 4t 5\nset 6t 7t\nset 8\n", tables, 31)
+
+
+def large_budget(program, checks, sets, tables, bound):
+    program.keep("large_sets", sets)
+    claim = Claim((8, 0, 6, 5, 4, 7, 2, 3, 1), bound=bound)
+    files = [(program.folder / table).read_bytes() for table in tables]
+    search = Search(read_sets(sets, read_tables(files, False)), program.strings)
     expanded = boards_expanded(search, claim)
     checks.that("more boards than one thread searches alone", expanded > ALONE, expanded)
     for workers in WORKERS:
-        for budget, wanted in [(expanded, b"bound 29"), (expanded - 1, b"refused K1")]:
+        for budget, wanted in [(expanded, b"bound %d" % bound), (expanded - 1, b"refused K1")]:
             flags = ["--budget", str(budget), "--workers", str(workers)]
-            told = program.answers(checks, [claim], "one_set", ["three_tiles"], *flags)
+            told = program.answers(checks, [claim], "large_sets", tables, *flags)
             checks.that(f"{budget} boards by {workers}", told and told[0].startswith(wanted), told)
 
 

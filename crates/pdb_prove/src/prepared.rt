@@ -29,7 +29,7 @@ use work_run::Workers;
 pub(crate) enum Prepared {
     /// For those of all tables.
     OfAll(AllRooms),
-    /// For those of some, where another can't have words.
+    /// For those that can have words, where others can't, or where there are more than 8.
     OfSome(SomeRooms),
 }
 

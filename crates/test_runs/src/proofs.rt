@@ -255,14 +255,20 @@ fn large_files(alloc: Global) -> Result<MemShelf, AllocError> {
     MemShelf::of(alloc, &files)
 }
 
-/// What is said of the same claims where the budget is one board too small.
+/// What is said of the same claims where the budget is too small.
 const LARGE_ABOVE: &str =
     "refused K1 of 8 7 6 0 4 1 2 5 3 : 23\noptimal 1 of 1 0 2 3 4 5 6 7 8 ; L\n";
 
-/// A run of a large search on these names says the same by 1, 2, 7 and 64 workers, whole and with one board too few.
+/// A run of a large search on these names says the same by 1, 2, 7 and 64 workers, with a budget of all of its boards, and with
+/// fewer. A plain search counts 82,932 of them.
 fn expect_large<H: Threads + Wait + Sync>(rt: &H, alloc: Global, names: &str) -> Result<(), Fail> {
     let mut shelf = large_files(alloc)?;
-    let cases = [("", LARGE_LINES, 0), (" --budget 65537", LARGE_ABOVE, 1)];
+    let cases = [
+        ("", LARGE_LINES, 0),
+        (" --budget 82932", LARGE_LINES, 0),
+        (" --budget 82931", LARGE_ABOVE, 1),
+        (" --budget 65537", LARGE_ABOVE, 1),
+    ];
     for (budget, lines, status) in cases {
         let words = (names, budget);
         expect_by_all(rt, alloc, words, &mut shelf, (lines, status))?;
