@@ -365,9 +365,9 @@ fn a_claim_is_searched_for_anew_over_words_where_it_takes_many_boards(
             "twice sets small small small small small small small great great --workers 2",
             3,
         ),
-        // A third of these 544,374 placements are 181,458: both claims take fewer boards together.
+        // A third of these 725,805 placements are 241,935: both claims take fewer boards together.
         (
-            "twice sets small small small small small small great great great",
+            "twice sets small small small small small great great great great",
             2,
         ),
     ];
