@@ -20,9 +20,6 @@ use atomic_table::Table;
 use std::alloc::{AllocError, Global};
 use std::marker::Model;
 
-/// Want of memory.
-pub type Memory = AllocError;
-
 /// A book of jobs, from which passes draw.
 ///
 /// Each call of a pass is one atomic step, which waits for nobody and takes no memory.
@@ -53,7 +50,7 @@ impl Model for Book {
 
 impl Book {
     /// A book from which no job is drawn, and its passes in the order of their numbers.
-    pub fn new(alloc: Global, jobs: u64, workers: u8) -> Result<(Book, Vec<Pass>), Memory>
+    pub fn new(alloc: Global, jobs: u64, workers: u8) -> Result<(Book, Vec<Pass>), AllocError>
         requires jobs { jobs ≤ 2 ^ 32 }
         requires workers { AreWorkers workers }
         ensures sizes { IfOk result (λ r. (r.0.sizes.jobs ≡ jobs) × (r.0.sizes.workers ≡ workers)) }

@@ -7,6 +7,6 @@ mod passes;
 mod rules;
 mod views;
 
-pub use books::{Book, Memory};
+pub use books::Book;
 pub use laws::shown_law;
 pub use passes::Pass;

@@ -24,7 +24,8 @@ use std::sync::Wait;
 use std::thread::Threads;
 use work_run::{Gate, Workers, run_jobs_by};
 
-/// The bound that a log proves for a board over a bundle, checked lemma by lemma, by so many workers at once.
+/// The bound that a log, a certificate of an IDA* search, proves for a board over a bundle. It is checked lemma by lemma, by so
+/// many workers at once.
 ///
 /// The caller's thread is one of them. Each passes the gate once before each lemma that it checks. The lemmas may be taken
 /// in any order, also before those that they cite.

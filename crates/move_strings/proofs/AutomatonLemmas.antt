@@ -13,8 +13,8 @@ use Rattle.move_strings.specs.Drafts.{EndsWith, IsRightDraft, IsRightStep, autom
 use Rattle.move_strings.specs.Strings.{HasForbidden, IsForbidden, rank_of}
 use Rattle.move_strings.specs.Tables.{IsRight}
 use Rattle.move_strings.specs.declared.drafts.Draft.{Draft}
-use Rattle.move_strings.specs.declared.drafts.Step.{Step}
-use Rattle.move_strings.specs.declared.drafts.Step.TheVariants.{To, LeftOut}
+use Rattle.move_strings.specs.declared.drafts.Transition.{Transition}
+use Rattle.move_strings.specs.declared.drafts.Transition.TheVariants.{To, LeftOut}
 use Rattle.move_strings.specs.declared.forbidden_strings.Forbidden.{Forbidden}
 
 -- ---- places of the table
@@ -95,7 +95,7 @@ is_state steps states s long inside m = let few = rank_of-few m in omega arith
 state_is : (steps : List ℕ) (states s : ℕ) → length steps ≡ 4 * states → IsState steps s → s < states
 state_is steps states s long is = let last : 4 * s + 0 < length steps = is Up in omega arith
 
-number_right : {Z : Type 0} → (labels : List (Vec Move Z)) (forbidden : List Forbidden) (moves : List Move) (step : Step)
+number_right : {Z : Type 0} → (labels : List (Vec Move Z)) (forbidden : List Forbidden) (moves : List Move) (step : Transition)
     → IsRightStep labels forbidden moves step
     → IsRight (label_of labels) (length labels) (string_of forbidden) (length forbidden) moves (number_of step)
 number_right labels forbidden moves (To state) right = inl (right.0, right.1)
@@ -163,14 +163,14 @@ ends_as label other m k string shown e f g t ends =
     (subst (λ x. IsTrue t ↔ EndsWith (label ++ x ∷ []) shown) f (subst (λ s. IsTrue t ↔ EndsWith (label ++ m ∷ []) s) g ends))
 
 -- a step to a state is right exactly where the moves that it completes end with the state's label
-pub right_to : {Z : Type 0} → (labels : List (Vec Move Z)) (forbidden : List Forbidden) (place state : ℕ) (step : Step) → step ≡ To state
+pub right_to : {Z : Type 0} → (labels : List (Vec Move Z)) (forbidden : List Forbidden) (place state : ℕ) (step : Transition) → step ≡ To state
     → state < length labels
     → {t : Bool} → IsTrue t ↔ EndsWith (moves_at labels place) (label_of labels state) → IsTrue t ↔ IsRightStep labels forbidden (moves_at labels place) step
 right_to labels forbidden place state step is inside {t} ends =
     subst (λ s. IsTrue t ↔ IsRightStep labels forbidden (moves_at labels place) s) (sym is) (λ holds. (inside, ends.0 holds), λ right. ends.1 right.1)
 
 -- a step that is left out is right exactly where the moves that it completes end with its string
-pub right_left_out : {Z : Type 0} → (labels : List (Vec Move Z)) (forbidden : List Forbidden) (place number : ℕ) (step : Step)
+pub right_left_out : {Z : Type 0} → (labels : List (Vec Move Z)) (forbidden : List Forbidden) (place number : ℕ) (step : Transition)
     → step ≡ LeftOut number → number < length forbidden
     → {t : Bool} → IsTrue t ↔ EndsWith (moves_at labels place) (string_of forbidden number) → IsTrue t
     ↔ IsRightStep labels forbidden (moves_at labels place) step

@@ -6,8 +6,8 @@ use Rattle.puz_board.specs.declared.moves.Move.TheVariants.{Up, Down, Left, Righ
 use Rattle.move_strings.specs.Automata.{ShownAutomaton, left_out}
 use Rattle.move_strings.specs.Strings.{IsWitness}
 use Rattle.move_strings.specs.declared.drafts.Draft.{Draft}
-use Rattle.move_strings.specs.declared.drafts.Step.{Step}
-use Rattle.move_strings.specs.declared.drafts.Step.TheVariants.{To, LeftOut}
+use Rattle.move_strings.specs.declared.drafts.Transition.{Transition}
+use Rattle.move_strings.specs.declared.drafts.Transition.TheVariants.{To, LeftOut}
 use Rattle.move_strings.specs.declared.forbidden_strings.Forbidden.{Forbidden}
 
 -- the label of a state
@@ -35,7 +35,7 @@ EndsWith moves string = (front : List Move) × (moves ≡ front ++ string)
 
 -- a step after some moves is right: it leads to a state with whose label they end; or it is left out, and they end with a string
 -- that is said to be forbidden
-abbrev pub IsRightStep : {Z : Type 0} → List (Vec Move Z) → List Forbidden → List Move → Step → Type 0
+abbrev pub IsRightStep : {Z : Type 0} → List (Vec Move Z) → List Forbidden → List Move → Transition → Type 0
 IsRightStep labels forbidden moves (To state) = (state < length labels) × EndsWith moves (label_of labels state)
 IsRightStep labels forbidden moves (LeftOut number) = (number < length forbidden) × EndsWith moves (string_of forbidden number)
 
@@ -44,9 +44,9 @@ abbrev pub moves_at : {Z : Type 0} → List (Vec Move Z) → ℕ → List Move
 moves_at labels place = label_of labels (place / 4) ++ move_of_rank (place % 4) ∷ []
 
 -- each step is right
-abbrev pub AreRightSteps : {Z : Type 0} → List (Vec Move Z) → List Forbidden → List Step → Type 0
+abbrev pub AreRightSteps : {Z : Type 0} → List (Vec Move Z) → List Forbidden → List Transition → Type 0
 AreRightSteps labels forbidden steps =
-    (place : ℕ) (none : Step) → place < length steps → IsRightStep labels forbidden (moves_at labels place) (get_or steps place none)
+    (place : ℕ) (none : Transition) → place < length steps → IsRightStep labels forbidden (moves_at labels place) (get_or steps place none)
 
 -- a draft is right for boards of side n: it has some states, whose numbers are below that of a step that is left out; no moves
 -- stand for the first state; each string has the witness that is given with it; and of each state there are four steps, each of
@@ -60,7 +60,7 @@ pub record IsRightDraft (n : ℕ) (draft : Draft) : Type 0 where
   pub steps : AreRightSteps draft.labels.items draft.forbidden.items draft.steps.items
 
 -- what stands for a step in the table of an automaton
-abbrev pub number_of : Step → ℕ
+abbrev pub number_of : Transition → ℕ
 number_of (To state) = state
 number_of (LeftOut number) = left_out
 

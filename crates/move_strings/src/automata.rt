@@ -12,8 +12,8 @@ use puz_board::{Move, Side};
 use std::alloc::{AllocError, Global};
 use std::marker::Model;
 
-/// An automaton that reads moves one by one, from its first state on, which is 0. It refuses moves by leaving out one of their
-/// steps; then they have a string in them that is forbidden on boards of its side.
+/// A finite automaton that prunes moves (Taylor and Korf 1993). It reads them one by one, from its first state on, which is 0,
+/// and refuses them by leaving out one of their steps; then they have a string in them that is forbidden on boards of its side.
 #[derive(Drop)]
 pub struct Automaton {
     side: Side,

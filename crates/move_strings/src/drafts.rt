@@ -10,7 +10,7 @@ use std::alloc::{AllocError, Global};
 
 /// The step of a move from a state, as a draft has it.
 #[derive(Clone, Copy, Debug, PartialEq, Eq)]
-pub enum Step {
+pub enum Transition {
     /// It leads to the state with this number.
     To(u32),
     /// It is left out, since it completes the forbidden string with this number.
@@ -25,7 +25,7 @@ pub struct Draft {
     /// For each state the moves that it stands for: those before it end so. No moves stand for the first.
     pub labels: Vec<Vec<Move>>,
     /// Four for each state, one for each move in the order of the letters.
-    pub steps: Vec<Step>,
+    pub steps: Vec<Transition>,
 }
 
 /// What stands in the place of a step that is left out.
@@ -49,7 +49,7 @@ pub(crate) fn is_right(side: Side, draft: &Draft) -> bool
 }
 
 /// Whether each step is right.
-fn are_right_steps(labels: &[Vec<Move>], forbidden: &[Forbidden], steps: &[Step]) -> bool
+fn are_right_steps(labels: &[Vec<Move>], forbidden: &[Forbidden], steps: &[Transition]) -> bool
     requires { length steps.now ≡ 4 * length labels.now }
     ensures { IsTrue result ↔ AreRightSteps labels.now forbidden.now steps.now }
 {
@@ -62,7 +62,12 @@ fn are_right_steps(labels: &[Vec<Move>], forbidden: &[Forbidden], steps: &[Step]
 }
 
 /// Whether the step at a place is right.
-fn is_right_step(labels: &[Vec<Move>], forbidden: &[Forbidden], place: usize, step: Step) -> bool
+fn is_right_step(
+    labels: &[Vec<Move>],
+    forbidden: &[Forbidden],
+    place: usize,
+    step: Transition,
+) -> bool
     requires { place / 4 < length labels.now }
     ensures { IsTrue result
         ↔ IsRightStep labels.now forbidden.now (moves_at labels.now place) step }
@@ -70,11 +75,11 @@ fn is_right_step(labels: &[Vec<Move>], forbidden: &[Forbidden], place: usize, st
     let label = labels[place / 4].as_slice();
     let mv = move_at(place);
     match step {
-        Step::To(state) => {
+        Transition::To(state) => {
             let state = state as usize;
             state < labels.len() && ends_so(label, mv, labels[state].as_slice())
         }
-        Step::LeftOut(number) => {
+        Transition::LeftOut(number) => {
             let number = number as usize;
             number < forbidden.len() && ends_so(label, mv, forbidden[number].string.as_slice())
         }
@@ -82,14 +87,14 @@ fn is_right_step(labels: &[Vec<Move>], forbidden: &[Forbidden], place: usize, st
 }
 
 /// The table of steps.
-pub(crate) fn table_of(alloc: Global, steps: &[Step]) -> Result<Vec<u32>, AllocError>
+pub(crate) fn table_of(alloc: Global, steps: &[Transition]) -> Result<Vec<u32>, AllocError>
     ensures { IfOk result (λ table. table.items ≡ map number_of steps.now) }
 {
     let mut table = Vec::with_capacity(alloc, steps.len())?;
     for step in steps {
         table.push(match *step {
-            Step::To(state) => state,
-            Step::LeftOut(_) => LEFT_OUT,
+            Transition::To(state) => state,
+            Transition::LeftOut(_) => LEFT_OUT,
         })?;
     }
     Ok(table)

@@ -11,6 +11,6 @@ mod order;
 
 pub use automata::Automaton;
 pub use bound_parts::{BoundPart, MOST_PARTS};
-pub use drafts::{Draft, Step};
+pub use drafts::{Draft, Transition};
 pub use forbidden_strings::{Forbidden, are_forbidden};
 pub use order::rank_of_move;

@@ -29,7 +29,7 @@ use Rattle.pdb_run.specs.declared.statuses.Status.{Status}
 use Rattle.pdb_verdict.specs.Lines.{line_of_fault}
 use Rattle.pdb_verdict.specs.declared.verdicts.Fault.{Fault}
 use Rattle.pdb_prove.specs.Answers.{IsFoundOf, IsToldOf, are_yes, told_of, is_yes, words_of}
-use Rattle.pdb_prove.specs.Prove.{ClaimsFiles, IsOutcomeOf, Outcome, TellsClaims, answered, budget_of, digested_files, prove_plan, reply_to_claims}
+use Rattle.pdb_prove.specs.Prove.{ClaimsFiles, IsOutcomeOf, ClaimsOutcome, TellsClaims, answered, budget_of, digested_files, prove_plan, reply_to_claims}
 use Rattle.pdb_prove.specs.Prove.{told_lines, unready}
 use Rattle.pdb_prove.specs.declared.answers.Finding.{Finding}
 use Rattle.pdb_prove.specs.declared.answers.Finding.TheVariants.{Bound, Optimum, Part, Refused, Shorter, Shortest}
@@ -196,7 +196,7 @@ answers_true files told each =
     joined_lines IsTrueLine (digests_of (digested_files files)) (told_lines told) (digests_true (digested_files files)) (told_true told each)
 
 -- what comes of claims is told truly
-comes_true : (fold : Bool) (budget : ℕ) (files : ClaimsFiles) (outcome : Outcome) → IsOutcomeOf fold budget files outcome
+comes_true : (fold : Bool) (budget : ℕ) (files : ClaimsFiles) (outcome : ClaimsOutcome) → IsOutcomeOf fold budget files outcome
     → IsOfLines IsTrueLine (reply_text (reply_to_claims files outcome))
 comes_true fold budget files (unready refused) is =
     joined_lines IsTrueLine (digests_of (digested_files files)) (line_of_fault refused) (digests_true (digested_files files)) (alone _ (fault_line refused))
@@ -279,7 +279,7 @@ module _ (start lines : Bytes) where
 abbrev TellsYes : ClaimsFiles → Reply → Type 0
 TellsYes files reply = (told : List Told) × (reply_text reply ≡ digests_of (digested_files files) ++ told_lines told) × (are_yes told ≡ true)
 
-comes_yes : (files : ClaimsFiles) (outcome : Outcome) (reply : Reply) → reply ≡ reply_to_claims files outcome → reply.is_yes ≡ true → TellsYes files reply
+comes_yes : (files : ClaimsFiles) (outcome : ClaimsOutcome) (reply : Reply) → reply ≡ reply_to_claims files outcome → reply.is_yes ≡ true → TellsYes files reply
 comes_yes files (unready refused) reply told is_yes =
     let clash : false ≡ true = sym (ap (λ (r : Reply). r.is_yes) told) ∙ is_yes in cc
 comes_yes files (answered all) reply told is_yes = (all, ap reply_text told, sym (ap (λ (r : Reply). r.is_yes) told) ∙ is_yes)

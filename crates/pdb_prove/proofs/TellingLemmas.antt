@@ -5,7 +5,7 @@ use Rattle.std.specs.List.{All, AllZip}
 use Rattle.std.proofs.KnownBytes.{Appends-nil}
 use Rattle.std.proofs.Math.Seq.{take-add, take-length}
 use Rattle.std.proofs.lemmas.Grind.{common_steps, flat_map-append}
-use Rattle.std.proofs.lemmas.List.{append-nil, drop-map, drop_more, length-map, take-map}
+use Rattle.std.proofs.lemmas.List.{append-nil, drop-map, drop_more, take-map}
 use Rattle.std.proofs.lemmas.List.Elements.{All-drop, All-take}
 use Rattle.std.proofs.lemmas.List.Folds.{list_all-append}
 use Rattle.set_sum.specs.Bundles.{ShownBundle}
@@ -21,7 +21,7 @@ use Rattle.byte_io.proofs.Appending.{writes_behind}
 use Rattle.pdb_run.specs.Io.{IsWritten}
 use Rattle.pdb_run.specs.Runs.{World}
 use Rattle.pdb_prove.specs.Answers.{IsFoundFor, IsFoundOf, IsToldOf, is_found_yes, is_yes, told_of}
-use Rattle.pdb_prove.specs.Steps.{AreAllTold, AreCut, IsToldTo}
+use Rattle.pdb_prove.specs.Steps.{AreAllTold, AreCut}
 use Rattle.pdb_prove.specs.declared.answers.Finding.{Finding}
 use Rattle.pdb_prove.specs.declared.answers.Finding.TheVariants.{Bound, Optimum, Part, Refused, Shorter, Shortest}
 
@@ -181,33 +181,16 @@ module _ {v : ShownBundle} {budget : ℕ} {a b c : World} (shown : List ShownCla
       rw (← take-add i n shown) (take-append-drop (i + n) shown) in
       subst (λ all. AreCut v budget a c all) whole (cut_before (drop (i + n) shown) (cut_behind all next))
 
-front_and_rest : (claims : List Claim) (i : ℕ) → take i (map claim_shown claims) ++ map claim_shown (drop i claims) ≡ map claim_shown claims
-front_and_rest claims i =
-    ap (λ rest. take i (map claim_shown claims) ++ rest) (sym (drop-map claim_shown i claims)) ∙ take-append-drop i (map claim_shown claims)
-
-module _ {v : ShownBundle} {budget : ℕ} {a b c : World} (claims : List Claim) (i : ℕ) {y : Bool}
-    (all : AreAllTold v budget a b (take i (map claim_shown claims)) y) where
-  -- the first i were told, and all others behind them
-  pub rest_told : {z : Bool} → AreAllTold v budget b c (map claim_shown (drop i claims)) z → AreAllTold v budget a c (map claim_shown claims) (y && z)
-  rest_told {z} next = subst (λ xs. AreAllTold v budget a c xs (y && z)) (front_and_rest claims i) (all_behind all next)
-
-  -- or some of these
-  pub rest_cut : AreCut v budget b c (map claim_shown (drop i claims)) → AreCut v budget a c (map claim_shown claims)
-  rest_cut next = subst (λ xs. AreCut v budget a c xs) (front_and_rest claims i) (cut_behind all next)
-
 -- where as many are told as there are, all are
 pub whole_told : {v : ShownBundle} {budget : ℕ} {a b : World} {y : Bool} (shown : List ShownClaim) (n : ℕ) → n ≡ length shown
     → AreAllTold v budget a b (take n shown) y → AreAllTold v budget a b shown y
 whole_told {v} {budget} {a} {b} {y} shown n count told =
     subst (λ xs. AreAllTold v budget a b xs y) (ap (λ k. take k shown) count ∙ take-length shown) told
 
--- where all are told, as many are told as there are
-pub told_to_the_end : {v : ShownBundle} {budget : ℕ} {a b : World} {y : Bool} (claims : List Claim) (n : ℕ) → n ≡ length claims
-    → AreAllTold v budget a b (map claim_shown claims) y → IsToldTo v budget (map claim_shown claims) a b (record { told = n; is_yes = y })
-told_to_the_end {v} {budget} {a} {b} {y} claims n count told =
-    let all : n ≡ length (map claim_shown claims) = count ∙ sym (length-map claims claim_shown) in
-    let same = ap (λ k. take k (map claim_shown claims)) all ∙ take-length (map claim_shown claims) in
-    record { few = omega (arith, all); all = subst (λ xs. AreAllTold v budget a b xs y) (sym same) told }
+-- the claims behind the first i, cut out of all claims
+pub rest_shown : (claims : List Claim) (i : ℕ) → map claim_shown (take (length claims - i) (drop i claims))
+    ≡ take (length claims - i) (drop i (map claim_shown claims))
+rest_shown claims i = rw (drop-map claim_shown i claims) (sym (take-map claim_shown (length claims - i) (drop i claims)))
 
 -- the claim with a number below the count of claims
 pub claim_at : (claims : List Claim) (i : ℕ) → i < length claims → (claim : Claim) × (claim ≡ get_or claims i claim)

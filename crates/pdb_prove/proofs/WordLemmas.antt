@@ -1,6 +1,6 @@
 -- Words of tables, one after the other, and how many placements the tables have.
-use Rattle.std.proofs.Common.{true, false, ◌≡◌, ◌∙◌, ◌+◌, ◌<◌, ◌≤◌, ◌⊎◌, ℕ, zero, suc, List, [], ◌∷◌, ◌++◌, Option, Some, None}
-use Rattle.std.proofs.Common.{IfSome, MatchOption, inl, inr, ap, arith, drop, get_or, length, refl, slice_get, slice_index_or, subst, sym, take}
+use Rattle.std.proofs.Common.{true, false, ◌≡◌, ◌∙◌, ◌+◌, ◌*◌, ◌<◌, ◌≤◌, ◌⊎◌, ℕ, zero, suc, List, [], ◌∷◌, ◌++◌, Option, Some, None}
+use Rattle.std.proofs.Common.{inl, inr, ap, arith, drop, get_or, length, refl, slice_get, slice_index_or, sym, take}
 use Rattle.std.specs.List.{sum_by}
 use Rattle.std.proofs.lemmas.Bool.{cases_lt}
 use Rattle.std.proofs.lemmas.Grind.{common_steps}
@@ -8,17 +8,15 @@ use Rattle.std.proofs.lemmas.List.{drop_more}
 use Rattle.std.proofs.lemmas.List.Sums.{sum_by_more}
 use Rattle.std.proofs.lemmas.Option.{gets}
 use Rattle.pat_place.specs.Patterns.{ShownPattern}
+use Rattle.pat_place.specs.Ranks.{falling_factorial}
 use Rattle.tab_file.specs.Tables.{Table}
 use Rattle.set_sum.specs.Bundles.{ShownBundle}
 use Rattle.set_sum.specs.Parts.{ShownPart, no_part, part_pattern, part_shown}
-use Rattle.set_sum.specs.declared.parts.Part.{Part}
 use Rattle.set_sum.specs.declared.parts.Part.TheVariants.{Full}
 use Rattle.set_sum.proofs.ListLemmas.{get_or-slice_get}
-use Rattle.set_sum.proofs.PartLemmas.{shown_tiles}
-use Rattle.edge_words.specs.Indexes.{index_count, most_words}
 use Rattle.edge_words.specs.Words.{ShownWords}
 use Rattle.puz_walk.specs.WordBundles.{HasWords, pattern_at}
-use Rattle.pdb_prove.specs.Steps.{AreOwnWords, HaveRooms, IsRoomFor, IsStopped, IsWantedIf, placements_in}
+use Rattle.pdb_prove.specs.Steps.{HaveRooms, IsStopped, IsWantedIf}
 use Rattle.pdb_prove.specs.declared.prepared.Prepared.{Prepared}
 
 same_below : {X : Type 0} (xs : List X) (y x : X) (t : ℕ) → t < length xs → slice_get (xs ++ y ∷ []) t ≡ Some x → slice_get xs t ≡ Some x
@@ -48,17 +46,18 @@ get_push (z ∷ xs) y x (suc t) is = elim (get_push xs y x t is) [
   | inr last ↦ inr (ap suc last.0, last.1)
 ]
 
--- what holds of each element by its place holds so with one more
-pub each_more : {X : Type 0} (P : ℕ → X → Type 0) (xs : List X) (x : X) → ((t : ℕ) (y : X) → slice_get xs t ≡ Some y → P t y)
-    → P (length xs) x → (t : ℕ) (y : X) → slice_get (xs ++ x ∷ []) t ≡ Some y → P t y
-each_more P xs x each here t y is = elim (get_push xs x y t is) [
-  | inl there ↦ each t y there
-  | inr last ↦ subst (λ n. P n y) (sym last.0) (subst (P (length xs)) (sym last.1) here)
+-- with memory for the words of the next table there is memory for those of all tables so far and of this one
+pub more_rooms : (v : ShownBundle) (rooms : List ShownPattern) (room : ShownPattern)
+    → ((t : ℕ) (r : ShownPattern) → slice_get rooms t ≡ Some r → r ≡ pattern_at v t) → room ≡ pattern_at v (length rooms)
+    → (t : ℕ) (r : ShownPattern) → slice_get (rooms ++ room ∷ []) t ≡ Some r → r ≡ pattern_at v t
+more_rooms v rooms room each here t r is = elim (get_push rooms room r t is) [
+  | inl there ↦ each t r there
+  | inr last ↦ last.1 ∙ here ∙ ap (pattern_at v) (sym last.0)
 ]
 
 -- of the memory for the words of all tables, that for the next table comes first
-pub next_room : (v : ShownBundle) (all : List (Option ShownPattern)) → HaveRooms v all → (n : ℕ) → n < length v.tables
-    → (room : Option ShownPattern) → room ≡ slice_index_or (drop n all) 0 room → IsRoomFor v n room
+pub next_room : (v : ShownBundle) (all : List ShownPattern) → HaveRooms v all → (n : ℕ) → n < length v.tables → (room : ShownPattern)
+    → room ≡ slice_index_or (drop n all) 0 room → room ≡ pattern_at v n
 next_room v all have n low room is =
     let size = have.size in
     let more = drop_more all n room (omega arith) in
@@ -71,7 +70,7 @@ drop_one (suc k) [] = refl
 drop_one (suc k) (x ∷ xs) = drop_one k xs
 
 -- and behind it that for the others
-pub rooms_left : (all : List (Option ShownPattern)) (n : ℕ) → take 0 (drop n all) ++ drop 1 (drop n all) ≡ drop (n + 1) all
+pub rooms_left : (all : List ShownPattern) (n : ℕ) → take 0 (drop n all) ++ drop 1 (drop n all) ≡ drop (n + 1) all
 rooms_left all n = drop_one n all ∙ ap (λ k. drop k all) (let e : suc n ≡ n + 1 = omega arith in e)
 
 module _ (v : ShownBundle) (n : ℕ) (table : Table) (shows : part_shown (Full table) ≡ slice_index_or v.tables n no_part)
@@ -93,38 +92,11 @@ module _ (v : ShownBundle) (n : ℕ) (table : Table) (shows : part_shown (Full t
         }
   ]
 
-module _ (v : ShownBundle) (n : ℕ) (part : Part) (shows : part_shown part ≡ slice_index_or v.tables n no_part) (side : (part_pattern part).side ≡ v.side) where
   -- the placements of the next table count besides those of the tables before it
-  pub more_placements : (m : ℕ) → n < length v.tables → m ≡ sum_by (placements_in v.side) (take n v.tables)
-      → (more : ℕ) → more ≡ placements_in (part_pattern part).side (part_shown part)
-      → m + more ≡ sum_by (placements_in v.side) (take (n + 1) v.tables)
+  pub more_placements : (m : ℕ) → n < length v.tables → m ≡ sum_by (λ part. falling_factorial (v.side * v.side) (length part.tiles)) (take n v.tables)
+      → (more : ℕ) → more ≡ falling_factorial (table.pattern.side * table.pattern.side) (length table.pattern.tiles)
+      → m + more ≡ sum_by (λ part. falling_factorial (v.side * v.side) (length part.tiles)) (take (n + 1) v.tables)
   more_placements m low is more counts =
-      let next = sum_by_more (placements_in v.side) v.tables n no_part low in
-      let here = rw (side, shows) at counts in omega (arith, next, here, is)
-
-  -- its pattern is that of the table by its number
-  pub own_pattern : part_pattern part ≡ pattern_at v n
-  own_pattern =
-      let tiles = shown_tiles part ∙ ap (λ p. p.tiles) shows in
-      λ i. record { side = side i; tiles = tiles i }
-
-  -- memory for the words of the table is that for the table by its number
-  pub own_room : (room : Option ShownPattern)
-      → MatchOption room (((part_shown part).is_folded ≡ true) ⊎ (most_words < index_count (part_pattern part)))
-      (λ pattern. ((part_shown part).is_folded ≡ false) × (pattern ≡ part_pattern part))
-      → IsRoomFor v n room
-  own_room None (inl folded) = λ can. absurd (let full = can.full in let same = ap (λ (p : ShownPart). p.is_folded) shows in cc)
-  own_room None (inr many) = λ can. absurd (let few = can.few in let same = ap index_count own_pattern in omega (arith, many, few, same))
-  own_room (Some pattern) (full, is) = (sym (ap (λ (p : ShownPart). p.is_folded) shows) ∙ full, is ∙ own_pattern)
-
-  -- such memory is for words of the table
-  pub room_of_part : (room : Option ShownPattern) → IsRoomFor v n room
-      → IfSome room (λ pattern. ((part_shown part).is_folded ≡ false) × (pattern ≡ part_pattern part))
-  room_of_part None is = tt
-  room_of_part (Some pattern) is = (ap (λ (p : ShownPart). p.is_folded) shows ∙ is.0, is.1 ∙ sym own_pattern)
-
-  -- words that are made where there is memory for them are the table's own
-  pub own_words : (room : Option ShownPattern) (words : Option ShownWords) → IsRoomFor v n room
-      → MatchOption words (room ≡ None) (λ w. (room ≡ Some (part_pattern part)) × (w.pattern ≡ part_pattern part)) → AreOwnWords v n words
-  own_words room None is none = subst (IsRoomFor v n) none is
-  own_words room (Some w) is made = record { full = (subst (IsRoomFor v n) made.0 is).0; pattern = made.1 ∙ own_pattern }
+      let next = sum_by_more (λ (part : ShownPart). falling_factorial (v.side * v.side) (length part.tiles)) v.tables n no_part low in
+      let here = ap (λ (part : ShownPart). falling_factorial (v.side * v.side) (length part.tiles)) shows in
+      let counted = rw side at counts in omega (arith, next, here, counted, is)

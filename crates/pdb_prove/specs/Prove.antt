@@ -73,9 +73,9 @@ IsUnready fold files refused =
 -- ---- what is told
 
 -- what comes of the claims: a refusal of the files, or what is told of each claim
-pub data Outcome : Type 0 where
-  unready : verdict.Fault → Outcome
-  answered : List Told → Outcome
+pub data ClaimsOutcome : Type 0 where
+  unready : verdict.Fault → ClaimsOutcome
+  answered : List Told → ClaimsOutcome
 
 -- for claims that are ready, what is told of each, in their order
 pub record AreAnswered (fold : Bool) (budget : ℕ) (files : ClaimsFiles) (told : List Told) : Type 0 where
@@ -85,7 +85,7 @@ pub record AreAnswered (fold : Bool) (budget : ℕ) (files : ClaimsFiles) (told 
   pub each : AllZip (IsToldOf bundle budget) claims told
 
 -- of these files
-abbrev pub IsOutcomeOf : Bool → ℕ → ClaimsFiles → Outcome → Type 0
+abbrev pub IsOutcomeOf : Bool → ℕ → ClaimsFiles → ClaimsOutcome → Type 0
 IsOutcomeOf fold budget files (unready refused) = IsUnready fold files refused
 IsOutcomeOf fold budget files (answered told) = AreAnswered fold budget files told
 
@@ -98,13 +98,13 @@ abbrev pub told_lines : List Told → Bytes
 told_lines told = flat_map told_line told
 
 -- the digests, and then the lines; it is a yes where each claim is answered with one
-abbrev pub reply_to_claims : ClaimsFiles → Outcome → Reply
+abbrev pub reply_to_claims : ClaimsFiles → ClaimsOutcome → Reply
 reply_to_claims files (unready refused) = reply_on (digested_files files) (Err refused)
 reply_to_claims files (answered told) = record { digested = digested_files files; made = None; lines = told_lines told; is_yes = are_yes told }
 
 -- a reply tells what comes of the claims
 pub record TellsClaims (fold : Bool) (budget : ℕ) (files : ClaimsFiles) (reply : Reply) : Type 0 where
-  pub outcome : Outcome
+  pub outcome : ClaimsOutcome
   pub is_outcome : IsOutcomeOf fold budget files outcome
   pub told : reply ≡ reply_to_claims files outcome
 

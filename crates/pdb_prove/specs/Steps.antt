@@ -1,17 +1,12 @@
 -- What the steps of a run of claims say.
-use Rattle.std.specs.Prelude.{◌≡◌, ℕ, ◌*◌, ◌<◌, ◌≤◌, ◌++◌, nat_le, Bool, true, false, not, ◌&&◌, if◌then◌else◌, List, [], length, slice_get, slice_index_or, take}
+use Rattle.std.specs.Prelude.{◌≡◌, ℕ, ◌*◌, ◌<◌, ◌≤◌, ◌++◌, Bool, true, false, List, [], length, slice_get, slice_index_or, take}
 use Rattle.std.specs.Prelude.{Option, Some, None, IfSome, IsNone, IsSome, MatchOption, Result, Ok, Err, MatchResult, Vec, vec_capacity}
 use Rattle.std.specs.List.{AllZip, sum_by}
 use Rattle.puz_board.specs.MovesTexts.{Solves}
 use Rattle.pat_place.specs.Patterns.{ShownPattern}
 use Rattle.pat_place.specs.Ranks.{falling_factorial}
-use Rattle.edge_words.specs.Indexes.{index_count, most_words}
-use Rattle.edge_words.specs.Words.{ShownWords}
 use Rattle.set_sum.specs.Bundles.{ShownBundle}
-use Rattle.set_sum.specs.Parts.{ShownPart, no_part}
-use Rattle.puz_walk.specs.MixedBundles.{AreWordsOf}
-use Rattle.puz_walk.specs.Outlines.{CanHaveWords, CanTableHaveWords}
-use Rattle.puz_walk.specs.WordBundles.{pattern_at}
+use Rattle.puz_walk.specs.WordBundles.{most_worded, pattern_at}
 use Rattle.claim_text.specs.Claims as claims
 use Rattle.claim_text.specs.Claims.{ShownAsks, ShownClaim}
 use Rattle.claim_text.specs.Lines.{Told}
@@ -31,11 +26,7 @@ use Rattle.pdb_verdict.specs.declared.verdicts.Fault.TheVariants as fault
 use Rattle.pdb_prove.specs.Answers.{IsFoundFor, IsToldOf, are_yes}
 use Rattle.pdb_prove.specs.Prove.{ClaimsFiles, IsUnready, told_lines}
 use Rattle.pdb_prove.specs.declared.batches.Telling.{Telling}
-use Rattle.pdb_prove.specs.declared.prepared.AllRooms.{AllRooms}
 use Rattle.pdb_prove.specs.declared.prepared.Prepared.{Prepared}
-use Rattle.pdb_prove.specs.declared.prepared.Prepared.TheVariants.{OfAll, OfSome}
-use Rattle.pdb_prove.specs.declared.prepared.SomeRooms.{SomeRooms}
-use Rattle.pdb_prove.specs.declared.runs.AllWanted.{AllWanted}
 use Rattle.pdb_prove.specs.declared.runs.ClaimsRead.{ClaimsRead}
 use Rattle.pdb_prove.specs.declared.runs.Wanted.{Wanted}
 use Rattle.pdb_prove.specs.declared.answers.Finding.{Finding}
@@ -60,17 +51,9 @@ abbrev pub of_claims : ClaimsFault → Fault
 of_claims (claims_fault.Q1 line) = fault.Q1 line
 of_claims claims_fault.Memory = fault.Memory
 
--- a table of this side isn't folded, and its pattern has no more indexes than there may be words
-abbrev pub can_have_words : ℕ → ShownPart → Bool
-can_have_words side table = not table.is_folded && nat_le (index_count (record { side = side; tiles = table.tiles })) most_words
-
--- how many placements it has where it can have words, and else none
-abbrev pub placements_in : ℕ → ShownPart → ℕ
-placements_in side table = if can_have_words side table then falling_factorial (side * side) (length table.tiles) else 0
-
--- how many placements those tables of a bundle have together that can have words
+-- how many placements the tables of a bundle have together
 abbrev pub placements_of : ShownBundle → ℕ
-placements_of v = sum_by (placements_in v.side) v.tables
+placements_of v = sum_by (λ table. falling_factorial (v.side * v.side) (length table.tiles)) v.tables
 
 -- ---- one claim
 
@@ -140,45 +123,18 @@ IsToldOrWanted v budget claims old new result =
 
 -- ---- the memory for words
 
--- the memory for the words of the table with this number: it is for the pattern of a table that isn't folded, and there is some
--- where the table can have words
-abbrev pub IsRoomFor : ShownBundle → ℕ → Option ShownPattern → Type 0
-IsRoomFor v table room =
-    MatchOption room (¬ CanTableHaveWords v table)
-    (λ pattern. ((slice_index_or v.tables table no_part).is_folded ≡ false) × (pattern ≡ pattern_at v table))
-
--- so it is for each table of a bundle
-pub record HaveRooms (v : ShownBundle) (rooms : List (Option ShownPattern)) : Type 0 where
+-- there is memory for the words of each table of a bundle
+pub record HaveRooms (v : ShownBundle) (rooms : List ShownPattern) : Type 0 where
   pub size : length rooms ≡ length v.tables
-  pub each : (table : ℕ) (room : Option ShownPattern) → slice_get rooms table ≡ Some room → IsRoomFor v table room
+  pub each : (table : ℕ) (room : ShownPattern) → slice_get rooms table ≡ Some room → room ≡ pattern_at v table
 
--- all tables of a bundle can have words, and there is all memory for them
-pub record AreRoomsOfAll (v : ShownBundle) (prepared : AllRooms) : Type 0 where
-  pub can : CanHaveWords v
+-- there is all memory for the words of the tables of a bundle
+pub record IsPreparedFor (v : ShownBundle) (prepared : Prepared) : Type 0 where
+  pub few : length v.tables ≤ most_worded
   pub outline : prepared.outline.value ≡ v
   pub rooms : HaveRooms v prepared.rooms.items
   pub empty : prepared.words.items ≡ []
   pub room : length v.tables ≤ vec_capacity prepared.words
-
--- there is all memory for the words of those tables of a bundle that can have words
-pub record AreRoomsOfSome (v : ShownBundle) (prepared : SomeRooms) : Type 0 where
-  pub rooms : HaveRooms v prepared.rooms.items
-  pub empty : prepared.words.items ≡ []
-  pub room : length v.tables ≤ vec_capacity prepared.words
-
--- one of the two
-abbrev pub IsPreparedFor : ShownBundle → Prepared → Type 0
-IsPreparedFor v (OfAll rooms) = AreRoomsOfAll v rooms
-IsPreparedFor v (OfSome rooms) = AreRoomsOfSome v rooms
-
--- the words of the table with this number: they are its own, and there are some where it can have words
-abbrev pub AreOwnWords : ShownBundle → ℕ → Option ShownWords → Type 0
-AreOwnWords v table words = MatchOption words (¬ CanTableHaveWords v table) (AreWordsOf v table)
-
--- so they are of each table of a bundle
-pub record HaveOwnWords (v : ShownBundle) (words : List (Option ShownWords)) : Type 0 where
-  pub size : length words ≡ length v.tables
-  pub each : (table : ℕ) (own : Option ShownWords) → slice_get words table ≡ Some own → AreOwnWords v table own
 
 -- where something is found nothing is prepared, and else all is
 abbrev pub IsWantedIf : {A : Type 0} → Option A → ShownBundle → Option Prepared → Type 0
@@ -190,12 +146,7 @@ abbrev pub IsStopped : ℕ → ℕ → ShownBundle → Option Prepared → Type 
 IsStopped told count v None = told ≡ count
 IsStopped told count v (Some prepared) = (told < count) × IsPreparedFor v prepared
 
--- there is all memory for words, and an automaton of strings for boards of the side, if there is one
+-- there is all memory for the words, and an automaton of strings for boards of the side, if there is one
 pub record IsWantedFor (v : ShownBundle) (wanted : Wanted) : Type 0 where
   pub prepared : IsPreparedFor v wanted.prepared
-  pub strings : IfSome wanted.strings (λ strings. strings.side ≡ v.side)
-
--- the same where all tables can have words
-pub record IsWantedOfAll (v : ShownBundle) (wanted : AllWanted) : Type 0 where
-  pub rooms : AreRoomsOfAll v wanted.rooms
   pub strings : IfSome wanted.strings (λ strings. strings.side ≡ v.side)

@@ -1,12 +1,11 @@
 //! Claims in batches: what one thread finds soon is found for all claims of a batch first, by all workers, and the rest of a batch
 //! is searched for claim by claim, by all workers together.
 
-ghost use Rattle.std.specs.Prelude.{◌≡◌, ◌*◌, ◌<◌, ◌≤◌, ◌∷◌, [], IfOk, IsSome, None, drop, length, map, slice_index_or};
+ghost use Rattle.std.specs.Prelude.{◌≡◌, ◌*◌, ◌<◌, ◌∷◌, [], IfOk, IsSome, None, length, map, slice_index_or};
 ghost use Rattle.std.specs.List.{All};
 ghost use Rattle.claim_text.specs.Lines.{HasFewLetters};
 ghost use Rattle.claim_text.specs.Shown.{claim_shown};
 ghost use Rattle.claim_text.specs.declared.claims.Claim.{Claim};
-ghost use Rattle.set_sum.specs.Bundles.{ShownBundle};
 ghost use Rattle.puz_search.specs.StoredGuides.{bundle_of};
 ghost use Rattle.pdb_prove.specs.Answers.{IsFoundFor};
 ghost use Rattle.pdb_prove.specs.Posed.{ArePosed};
@@ -94,25 +93,6 @@ pub(crate) struct Asked<'a> {
     pub(crate) starts: &'a [Start],
     pub(crate) first: u64,
     pub(crate) budget: u64,
-}
-
-impl<'a> Asked<'a> {
-    /// The same without the first claims, so many.
-    pub(crate) fn behind(self, told: usize) -> Asked<'a>
-        requires told { told ≤ length self.claims.now }
-        requires starts { length self.starts.now ≡ length self.claims.now }
-        ensures claims { result.claims.now ≡ drop told self.entry.claims.now }
-        ensures posed { (v : ShownBundle) → ArePosed v self.entry.claims.now self.entry.starts.now
-            → ArePosed v result.claims.now result.starts.now }
-        ensures budget { result.budget ≡ self.entry.budget }
-    {
-        Asked {
-            claims: &self.claims[told..],
-            starts: &self.starts[told..],
-            first: self.first.saturating_add(told as u64),
-            budget: self.budget,
-        }
-    }
 }
 
 /// Tells claims in their order, until words are wanted.

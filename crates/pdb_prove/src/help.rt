@@ -15,6 +15,7 @@ use crate::prepared::{Prepared, prepare, wordable};
 use move_strings::Automaton;
 use puz_board::Side;
 use puz_search::{Guide, Sets};
+use puz_walk::WordBundle;
 use set_sum::Bundle;
 use std::alloc::Global;
 use std::thread::Threads;
@@ -29,7 +30,7 @@ const PLACEMENTS_FOR_A_BOARD: u64 = 3;
 
 /// What leads the searches for hard claims over sets. An automaton of strings is made when the first of them wants it, and kept
 /// for the rest. Words are wanted once the hard claims have been searched for over sums for a third as many boards as the tables
-/// that can have words have placements together. Where there is no memory for either, the searches go on without it.
+/// have placements together. Where there is no memory for either, the searches go on without it.
 #[derive(Drop)]
 pub(crate) struct Help<'a> {
     pub(crate) sets: Sets<'a>,
@@ -74,20 +75,20 @@ impl<'a> Help<'a> {
         }
     }
 
-    /// Help over the words of the tables, of all or of some, with the automaton of strings where it was made.
+    /// Help over the words of the tables, with the automaton of strings where it was made.
     pub(crate) fn over_words(
-        sets: Sets<'a>,
+        words: &'a WordBundle<'a>,
         reversals: &'a Automaton,
         strings: Option<Automaton>,
     ) -> Help<'a>
-        requires reversals { reversals.now.side ≡ (bundle_of sets).side }
-        requires strings { IfSome strings (λ automaton. automaton.side ≡ (bundle_of sets).side) }
-        ensures sets { bundle_of result.sets ≡ bundle_of sets.entry }
+        requires reversals { reversals.now.side ≡ words.now.side }
+        requires strings { IfSome strings (λ automaton. automaton.side ≡ words.now.side) }
+        ensures sets { bundle_of result.sets ≡ words.now }
         ensures unprepared { result.prepared ≡ None }
         ensures goes_on { result.before_words ≡ None }
     {
         Help {
-            sets,
+            sets: Sets::Words(words),
             reversals,
             is_made: true,
             strings,

@@ -1,14 +1,12 @@
 //! A run of `prove`.
 
-ghost use Rattle.std.specs.Prelude.{◌≡◌, ◌<◌, IfErr, IfOk, IfSome, MatchOption, MatchResult, None, Ok, Some, false, length, map};
+ghost use Rattle.std.specs.Prelude.{◌≡◌, IfErr, IfOk, IfSome, MatchOption, MatchResult, None, Ok, Some, false, length, map};
 ghost use Rattle.std.specs.List.{All};
 ghost use Rattle.claim_text.specs.Lines.{HasFewLetters};
 ghost use Rattle.claim_text.specs.Shown.{claim_shown};
 ghost use Rattle.claim_text.specs.Texts.{AreClaims};
 ghost use Rattle.set_sum.specs.Bundles.{ShownBundle};
-ghost use Rattle.puz_walk.specs.MixedBundles.{HaveSomeWords};
 ghost use Rattle.puz_walk.specs.WordBundles.{HaveWords};
-ghost use Rattle.puz_search.specs.StoredGuides.{bundle_of};
 ghost use Rattle.byte_io.specs.Shelf.{Bytes};
 ghost use Rattle.pdb_request.specs.Asked.{prove_shown};
 ghost use Rattle.pdb_run.specs.Answers.{all_bytes, answer_text, digest_lines};
@@ -18,12 +16,12 @@ ghost use Rattle.pdb_run.specs.Writing.{digests_of};
 ghost use Rattle.pdb_verdict.specs.FileBundles.{IsBundleOfFiles};
 ghost use Rattle.pdb_prove.specs.Posed.{ArePosed};
 ghost use Rattle.pdb_prove.specs.Prove.{AreReady, ClaimsFiles, ProveEnds, budget_of, digested_files, in_order, prove_inputs};
-ghost use Rattle.pdb_prove.specs.Steps.{AreCut, AreRoomsOfAll, AreTold, IsCauseForClaims, IsToldTo, IsWantedFor, IsWantedOfAll, files_of};
+ghost use Rattle.pdb_prove.specs.Steps.{AreCut, AreTold, IsCauseForClaims, IsPreparedFor, IsToldTo, IsWantedFor, files_of};
 
 use crate::batches::{Asked, Telling, tell_claims};
 use crate::help::Help;
 use crate::inputs::{Proving, with_bytes};
-use crate::prepared::{AllRooms, Prepared};
+use crate::prepared::Prepared;
 use crate::ready::{Ready, of_claims, ready_with};
 use byte_io::streams::WriteFault;
 use claim_text::{Claim, read_claims};
@@ -32,9 +30,7 @@ use move_strings::Automaton;
 use pdb_request::Prove;
 use pdb_run::{AnswerLines, CommandAnswer, Digested, Io, Status, conclude, read_inputs};
 use pdb_verdict::{Fault, TableFiles, given_up, over_tables, told_or_memory};
-use puz_search::Sets;
-use puz_walk::{MixedBundle, Outline, Start, WordBundle};
-use set_sum::Bundle;
+use puz_walk::{Outline, Start, WordBundle};
 use std::convert::identity;
 use std::sync::Wait;
 use std::thread::Threads;
@@ -113,7 +109,7 @@ fn tell_all<H: Threads + Wait + Sync, G: Gate + Sync, I: Io>(
         Err(status) => return status,
     };
     let budget = budget_of(command.0);
-    let (telling, wanted) = match tell_over_bundle(&ready, !fold, budget, workers, io) {
+    let (telling, wanted) = match tell_over_tables(&ready, !fold, budget, workers, io) {
         Ok(told) => told,
         Err(_) => return Status::Fault,
     };
@@ -123,13 +119,12 @@ fn tell_all<H: Threads + Wait + Sync, G: Gate + Sync, I: Io>(
     let (claims, starts, reversals) = without_bundle(ready);
     let worded = wanted.fill(tables, workers);
     let asked = Asked {
-        claims: claims.as_slice(),
-        starts: starts.as_slice(),
-        first: 0,
+        claims: &claims.as_slice()[telling.told..],
+        starts: &starts.as_slice()[telling.told..],
+        first: telling.told as u64,
         budget,
     };
-    let left = asked.behind(telling.told);
-    match tell_over_words(left, worded, &reversals, workers, io) {
+    match tell_over_words(asked, worded, &reversals, workers, io) {
         Ok(is_yes) => status_of(telling.is_yes & is_yes),
         Err(_) => Status::Fault,
     }
@@ -153,14 +148,7 @@ struct Wanted {
     strings: Option<Automaton>,
 }
 
-/// The memory for the words of all tables, and the automaton of strings where it was made.
-#[derive(Drop)]
-struct AllWanted {
-    rooms: AllRooms,
-    strings: Option<Automaton>,
-}
-
-/// The words of all tables of a bundle, with what a search over them needs besides.
+/// The words of the tables of a bundle, with what a search over them needs besides.
 #[derive(Drop)]
 struct Worded {
     outline: Box<Outline>,
@@ -168,27 +156,19 @@ struct Worded {
     strings: Option<Automaton>,
 }
 
-/// A bundle with the words of those tables that can have words, and the automaton of strings where it was made.
-#[derive(Drop)]
-struct PartlyWorded<'a> {
-    bundle: &'a Bundle<'a>,
-    words: Vec<Option<Words>>,
-    strings: Option<Automaton>,
-}
-
-impl AllWanted {
+impl Wanted {
     /// The words of the tables of these files.
     fn fill<R: Threads + Sync, G>(self, files: Vec<Vec<u8>>, workers: &Workers<'_, R, G>) -> Worded
         requires { (sets : Bytes) × (v : ShownBundle)
-            × IsBundleOfFiles false (all_bytes files.items) sets v × AreRoomsOfAll v self.rooms }
-        ensures outline { result.outline.value ≡ self.rooms.outline.value }
+            × IsBundleOfFiles false (all_bytes files.items) sets v × IsPreparedFor v self.prepared }
+        ensures outline { result.outline.value ≡ self.prepared.outline.value }
         ensures words { (sets : Bytes) (v : ShownBundle)
             → IsBundleOfFiles false (all_bytes files.items) sets v
-            → AreRoomsOfAll v self.rooms → HaveWords v result.words.items }
+            → IsPreparedFor v self.prepared → HaveWords v result.words.items }
         ensures strings { result.strings ≡ self.strings }
     {
-        let AllWanted { rooms, strings } = self;
-        let (outline, words) = rooms.fill(files, workers);
+        let Wanted { prepared, strings } = self;
+        let (outline, words) = prepared.fill(files, workers);
         Worded {
             outline,
             words,
@@ -197,18 +177,18 @@ impl AllWanted {
     }
 }
 
-/// Tells the claims in their order while the bundle is kept: all of them, or those before which the words of all tables are
-/// wanted, and there is memory for them. Words may be wanted only where this is said.
-fn tell_over_bundle<H: Threads + Sync, G: Gate + Sync, I: Io>(
+/// Tells the claims in their order over the tables of a bundle, until words are wanted and there is memory for them. They may be
+/// wanted only where this is said.
+fn tell_over_tables<H: Threads + Sync, G: Gate + Sync, I: Io>(
     ready: &Ready<'_, '_>,
     may_want_words: bool,
     budget: u64,
     workers: &Workers<'_, H, G>,
     io: &mut I,
-) -> Result<(Telling, Option<AllWanted>), WriteFault>
+) -> Result<(Telling, Option<Wanted>), WriteFault>
     requires few { All (λ claim. HasFewLetters (claim_shown claim)) ready.now.claims.items }
     ensures wanted { IfOk result (λ told. MatchOption told.1
-        (told.0.told ≡ length ready.now.claims.items) (IsWantedOfAll ready.now.bundle)) }
+        (told.0.told ≡ length ready.now.claims.items) (IsWantedFor ready.now.bundle)) }
     ensures goes_on { may_want_words ≡ false → IfOk result (λ told. told.1 ≡ None) }
     ensures same_streams { I.streams io.new ≡ I.streams io.old }
     ensures told { let shown = map claim_shown ready.now.claims.items in
@@ -222,58 +202,6 @@ fn tell_over_bundle<H: Threads + Sync, G: Gate + Sync, I: Io>(
         first: 0,
         budget,
     };
-    let (telling, wanted) = match tell_over_tables(ready, asked, may_want_words, workers, io) {
-        Ok(told) => told,
-        Err(fault) => return Err(fault),
-    };
-    let Some(Wanted { prepared, strings }) = wanted else {
-        return Ok((telling, None));
-    };
-    match prepared {
-        Prepared::OfAll(rooms) => Ok((telling, Some(AllWanted { rooms, strings }))),
-        Prepared::OfSome(rooms) => {
-            let bundle = &ready.bundle;
-            let words = rooms.fill(bundle, workers);
-            let worded = PartlyWorded {
-                bundle,
-                words,
-                strings,
-            };
-            let left = asked.behind(telling.told);
-            match tell_over_some_words(left, worded, &ready.reversals, workers, io) {
-                Ok(is_yes) => {
-                    let told = asked.claims.len();
-                    let is_yes = telling.is_yes & is_yes;
-                    Ok((Telling { told, is_yes }, None))
-                }
-                Err(fault) => Err(fault),
-            }
-        }
-    }
-}
-
-/// Tells the claims in their order over the tables of a bundle, until words are wanted and there is memory for them. They may be
-/// wanted only where this is said.
-fn tell_over_tables<H: Threads + Sync, G: Gate + Sync, I: Io>(
-    ready: &Ready<'_, '_>,
-    asked: Asked<'_>,
-    may_want_words: bool,
-    workers: &Workers<'_, H, G>,
-    io: &mut I,
-) -> Result<(Telling, Option<Wanted>), WriteFault>
-    requires few { All (λ claim. HasFewLetters (claim_shown claim)) asked.claims.now }
-    requires posed { ArePosed ready.now.bundle asked.claims.now asked.starts.now }
-    ensures wanted { let count = length asked.entry.claims.now in
-        IfOk result (λ told. MatchOption told.1 (told.0.told ≡ count)
-        (λ wanted. (told.0.told < count) × IsWantedFor ready.now.bundle wanted)) }
-    ensures goes_on { may_want_words ≡ false → IfOk result (λ told. told.1 ≡ None) }
-    ensures same_streams { I.streams io.new ≡ I.streams io.old }
-    ensures told { let shown = map claim_shown asked.entry.claims.now in
-        let budget = asked.entry.budget in
-        MatchResult result
-        (λ told. IsToldTo ready.now.bundle budget shown (I.world io.old) (I.world io.new) told.0)
-        (λ _. AreCut ready.now.bundle budget (I.world io.old) (I.world io.new) shown) }
-{
     let mut help = Help::over_tables(&ready.bundle, &ready.reversals, may_want_words);
     match tell_claims(asked, &mut help, workers, io) {
         Ok(telling) => Ok((telling, wanted_by(help))),
@@ -295,8 +223,7 @@ fn wanted_by(help: Help<'_>) -> Option<Wanted>
     Some(Wanted { prepared, strings })
 }
 
-/// Tells claims in their order over the words of all tables: whether all of them are answered with a yes.
-#[inline(never)] // so that a search over sums hasn't its values on the stack
+/// Tells claims in their order over words: whether all of them are answered with a yes.
 fn tell_over_words<H: Threads + Sync, G: Gate + Sync, I: Io>(
     asked: Asked<'_>,
     worded: Worded,
@@ -323,57 +250,7 @@ fn tell_over_words<H: Threads + Sync, G: Gate + Sync, I: Io>(
     let Some(bundle) = WordBundle::of(outline.as_ref(), words.as_slice()) else {
         unreachable!();
     };
-    let help = Help::over_words(Sets::Words(&bundle), reversals, strings);
-    tell_with(asked, help, workers, io)
-}
-
-/// Tells claims in their order over the words of some tables: whether all of them are answered with a yes.
-#[inline(never)] // so that a search over sums hasn't its values on the stack
-fn tell_over_some_words<H: Threads + Sync, G: Gate + Sync, I: Io>(
-    asked: Asked<'_>,
-    worded: PartlyWorded<'_>,
-    reversals: &Automaton,
-    workers: &Workers<'_, H, G>,
-    io: &mut I,
-) -> Result<bool, WriteFault>
-    requires few { All (λ claim. HasFewLetters (claim_shown claim)) asked.claims.now }
-    requires posed { ArePosed worded.bundle.now asked.claims.now asked.starts.now }
-    requires words { HaveSomeWords worded.bundle.now worded.words.items }
-    requires reversals { reversals.now.side ≡ worded.bundle.now.side }
-    requires strings { IfSome worded.strings (λ strings. strings.side ≡ worded.bundle.now.side) }
-    ensures same_streams { I.streams io.new ≡ I.streams io.old }
-    ensures told { let shown = map claim_shown asked.entry.claims.now in
-        AreTold worded.entry.bundle.now asked.entry.budget shown
-        (I.world io.old) (I.world io.new) result }
-{
-    let PartlyWorded {
-        bundle,
-        words,
-        strings,
-    } = worded;
-    let Some(mixed) = MixedBundle::of(bundle, words.as_slice()) else {
-        unreachable!();
-    };
-    let help = Help::over_words(Sets::Mixed(&mixed), reversals, strings);
-    tell_with(asked, help, workers, io)
-}
-
-/// Tells claims in their order with help that wants no words: whether all of them are answered with a yes.
-fn tell_with<H: Threads + Sync, G: Gate + Sync, I: Io>(
-    asked: Asked<'_>,
-    mut help: Help<'_>,
-    workers: &Workers<'_, H, G>,
-    io: &mut I,
-) -> Result<bool, WriteFault>
-    requires few { All (λ claim. HasFewLetters (claim_shown claim)) asked.claims.now }
-    requires posed { ArePosed (bundle_of help.sets) asked.claims.now asked.starts.now }
-    requires unprepared { help.prepared ≡ None }
-    requires goes_on { help.before_words ≡ None }
-    ensures same_streams { I.streams io.new ≡ I.streams io.old }
-    ensures told { let shown = map claim_shown asked.entry.claims.now in
-        AreTold (bundle_of help.entry.sets) asked.entry.budget shown
-        (I.world io.old) (I.world io.new) result }
-{
+    let mut help = Help::over_words(&bundle, reversals, strings);
     match tell_claims(asked, &mut help, workers, io) {
         Ok(telling) => Ok(telling.is_yes),
         Err(fault) => Err(fault),

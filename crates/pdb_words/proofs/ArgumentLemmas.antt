@@ -1,25 +1,23 @@
--- Arguments that are added to commands, and what is found of them. A simple argument isn't global.
-use Rattle.std.proofs.Common.{◌≡◌, ◌&&◌, Bool, arith, false, true}
-use Rattle.std.specs.Prelude.{IfOk, Result}
-use Rattle.std.specs.declared.alloc.AllocError.{AllocError}
-use Rattle.clap.specs.Words.{App, Rule, app_of, rule_of, with_rule}
-use Rattle.clap.specs.declared.Arg.{Arg}
-use Rattle.clap.specs.declared.Command.{Command}
-use Rattle.clap.proofs.SimpleLemmas.{is_false}
-use Rattle.clap.proofs.WalkLemmas.{both, first_value-rows, raw_values-rows}
-use Rattle.pdb_words.specs.Arguments.{HasArgument}
+-- What a command takes, row by row, and what is found of it.
+use Rattle.std.proofs.Common.{◌≡◌, ◌∙◌, ◌<◌, ◌+◌, ◌++◌, ℕ, List, [], ◌∷◌, ap, arith, get_or, length, map, suc, sym, take}
+use Rattle.std.proofs.Math.Seq.{take-suc}
+use Rattle.std.proofs.lemmas.List.{map-append}
+use Rattle.clap.specs.Walk.{Text}
+use Rattle.clap.specs.Words.{with_rule}
+use Rattle.clap.proofs.WalkLemmas.{first_value-rows, raw_values-rows}
+use Rattle.pdb_words.specs.Rows.{command}
+use Rattle.pdb_words.specs.StoredRows.{rule_of_row}
+use Rattle.pdb_words.specs.declared.rows.Row.{Row}
 
-second : (a b : Bool) → (a && b) ≡ true → b ≡ true
-second a b all = (both a b all).1
+-- the first so many and the next one
+next_too : {X : Type 0} (xs : List X) (i : ℕ) (x : X) → i < length xs → take (i + 1) xs ≡ take i xs ++ get_or xs i x ∷ []
+next_too xs i x below = let next : i + 1 ≡ suc i = omega arith in ap (λ k. take k xs) next ∙ take-suc xs i x below
 
--- a simple argument is its command's alone
-pub simple_is_local : (a : Arg) → (rule_of a).is_simple ≡ true → a.global ≡ false
-simple_is_local a simple = search (second, is_false) depth 14
-
--- a command of which it is known what it is, with one more argument of which it is known
-pub has_rule : (made : Result Command AllocError) (other : Command) (arg : Arg) (app : App) (rule : Rule) → IfOk made (HasArgument other arg)
-    → app_of other ≡ app → rule_of arg ≡ rule → rule.is_simple ≡ true → IfOk made (λ c. app_of c ≡ with_rule app rule)
-has_rule made other arg app rule has is known simple = grind arith
+-- one row more is one rule more
+pub one_row_more : (name : Text) (rows : List Row) (i : ℕ) (row : Row) → i < length rows
+    → with_rule (command name (map rule_of_row (take i rows))) (rule_of_row (get_or rows i row)) ≡ command name (map rule_of_row (take (i + 1) rows))
+one_row_more name rows i row below = ap (command name)
+    (sym (ap (map rule_of_row) (next_too rows i row below) ∙ map-append rule_of_row (take i rows) (get_or rows i row ∷ [])))
 
 -- what is found of a command, as its rows have it
 pub ruleset found_rows = (first_value-rows, raw_values-rows)

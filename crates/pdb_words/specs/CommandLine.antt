@@ -1,5 +1,5 @@
 -- The words of the command line, and what they ask for.
-use Rattle.std.specs.Prelude.{◌≡◌, List, [], ◌++◌, Option, Some, None, codes, if◌then◌else◌, true}
+use Rattle.std.specs.Prelude.{◌≡◌, List, [], ◌∷◌, ◌++◌, Option, Some, None, codes, if◌then◌else◌, fold, true}
 use Rattle.std.specs.Str.{bytes_eq}
 use Rattle.clap.specs.Walk.{Row, Text}
 use Rattle.clap.specs.Simple.{App, new_app, on_top, subcommand_of, with_subcommand}
@@ -19,15 +19,17 @@ use Rattle.pdb_words.specs.Table.{table_command, table_in}
 abbrev pub program : App
 program = on_top (λ s. record s { no_binary_name = true; has_version = true }) (new_app (codes "pdb_cli"))
 
+-- the program with one more command
+abbrev pub with_command : App → App → App
+with_command above app = with_subcommand above app.top
+
 -- the program with the commands that only check
 abbrev pub checks : App
-checks = with_subcommand (with_subcommand (with_subcommand (with_subcommand program
-    replay_command.top) table_command.top) (check_command Bound).top) (check_command Optimum).top
+checks = fold with_command program (replay_command ∷ table_command ∷ check_command Bound ∷ check_command Optimum ∷ [])
 
 -- the program with all its commands
 abbrev pub command_line : App
-command_line = with_subcommand (with_subcommand (with_subcommand (with_subcommand checks
-    make_table_command.top) solve_command.top) prove_command.top) parts_command.top
+command_line = fold with_command checks (make_table_command ∷ solve_command ∷ prove_command ∷ parts_command ∷ [])
 
 -- ---- what words ask for
 

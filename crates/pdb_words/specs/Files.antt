@@ -1,33 +1,24 @@
 -- The files that a command names.
-use Rattle.std.specs.Prelude.{List, [], Some, codes, true, unwrap_or}
-use Rattle.clap.specs.Lexer.{usize_max}
+use Rattle.std.specs.Prelude.{List, [], codes, unwrap_or}
 use Rattle.clap.specs.Walk.{Row, Rule, Text, all_of, first_of}
-use Rattle.clap.specs.Simple.{App, new_rule, with_rule}
-use Rattle.pdb_words.specs.Fold.{fold_flag}
-use Rattle.pdb_words.specs.Workers.{workers_flag}
+use Rattle.pdb_words.specs.Rows.{needed_file, needed_files}
 
--- one file, which has to be named
-abbrev pub needed_file : Text → Rule
-needed_file id = record (new_rule id) { required = true }
+-- the file of the sets
+abbrev pub sets : Rule
+sets = needed_file (codes "SETS")
 
--- the name found for it
+-- the tables: one file or more
+abbrev pub tables : Rule
+tables = needed_files (codes "TABLES")
+
+-- the name found for a file
 abbrev pub file_in : Text → List Row → Text
 file_in id rows = unwrap_or (first_of id rows) []
 
--- the tables: one file or more
-abbrev pub needed_tables : Rule
-needed_tables = record (needed_file (codes "TABLES")) {
-  range = Some (record { start_inclusive = 1; end_inclusive = usize_max });
-}
+-- the names found for files
+abbrev pub files_in : Text → List Row → List Text
+files_in id rows = unwrap_or (all_of id rows) []
 
--- the names found for them
+-- the names found for the tables
 abbrev pub tables_in : List Row → List Text
-tables_in rows = unwrap_or (all_of (codes "TABLES") rows) []
-
--- the command with `SETS` behind its own file, and with the flags of how the tables are checked and kept
-abbrev pub with_sets : App → App
-with_sets command = with_rule (with_rule (with_rule command workers_flag) fold_flag) (needed_file (codes "SETS"))
-
--- the command with `SETS`, the file of a log and `TABLES..` behind its own file, and with these flags
-abbrev pub with_log : App → Rule → App
-with_log command log = with_rule (with_rule (with_sets command) log) needed_tables
+tables_in rows = files_in (codes "TABLES") rows

@@ -1,14 +1,13 @@
 -- The flag `--fold`: each table is folded once it is checked. Without it the tables stay whole.
-use Rattle.std.specs.Prelude.{Bool, List, Some, codes, false}
+use Rattle.std.specs.Prelude.{Bool, List, codes, false}
 use Rattle.std.specs.Option.{option_map_or}
 use Rattle.std.specs.Str.{bytes_eq}
 use Rattle.clap.specs.Walk.{Row, Rule, first_of}
-use Rattle.clap.specs.Simple.{new_rule}
-use Rattle.clap.specs.declared.builder.action.ArgAction.TheVariants.{SetTrue}
+use Rattle.pdb_words.specs.Rows.{flag}
 
 -- the flag, as `clap` sees it
 abbrev pub fold_flag : Rule
-fold_flag = record (new_rule (codes "fold")) { long = Some (codes "fold"); action = Some SetTrue }
+fold_flag = flag (codes "fold")
 
 -- the values found of a command ask that tables are folded
 abbrev pub fold_in : List Row → Bool

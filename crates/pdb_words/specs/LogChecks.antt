@@ -1,13 +1,14 @@
 -- The words of `bound [--workers N] [--fold] BOARD SETS LOG TABLES..`, and of `optimal`, which has PUZZLE in place of BOARD.
-use Rattle.std.specs.Prelude.{List, codes}
+use Rattle.std.specs.Prelude.{List, [], ◌∷◌, codes}
 use Rattle.clap.specs.Walk.{Row, Text}
-use Rattle.clap.specs.Simple.{App, new_app, with_rule}
+use Rattle.clap.specs.Simple.{App}
 use Rattle.pdb_request.specs.Asked.{Asked, claimed}
 use Rattle.pdb_request.specs.declared.requests.LogClaim.{LogClaim}
 use Rattle.pdb_request.specs.declared.requests.LogClaim.TheVariants.{Bound, Optimum}
-use Rattle.pdb_words.specs.Files.{file_in, needed_file, tables_in, with_log}
-use Rattle.pdb_words.specs.Fold.{fold_in}
-use Rattle.pdb_words.specs.Workers.{workers_in}
+use Rattle.pdb_words.specs.Files.{file_in, sets, tables, tables_in}
+use Rattle.pdb_words.specs.Fold.{fold_flag, fold_in}
+use Rattle.pdb_words.specs.Rows.{command, needed_file}
+use Rattle.pdb_words.specs.Workers.{workers_flag, workers_in}
 
 -- the name of the command that asks for a log's check
 abbrev pub check_name : LogClaim → Text
@@ -22,7 +23,7 @@ text_id Optimum = codes "PUZZLE"
 -- the command, as `clap` sees it
 abbrev pub check_command : LogClaim → App
 check_command claim =
-    with_log (with_rule (new_app (check_name claim)) (needed_file (text_id claim))) (needed_file (codes "LOG"))
+    command (check_name claim) (needed_file (text_id claim) ∷ workers_flag ∷ fold_flag ∷ sets ∷ needed_file (codes "LOG") ∷ tables ∷ [])
 
 -- what the values found of it ask for
 abbrev pub check_in : LogClaim → List Row → Asked

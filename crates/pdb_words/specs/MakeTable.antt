@@ -1,15 +1,16 @@
 -- The words of `make-table [--workers N] [--replace] SIDE MASK OUT`.
-use Rattle.std.specs.Prelude.{ℕ, List, [], ◌∷◌, Option, Some, codes, if◌then◌else◌, is_some, pos, true, unwrap_or}
+use Rattle.std.specs.Prelude.{ℕ, List, [], ◌∷◌, Option, codes, if◌then◌else◌, is_some, pos, unwrap_or}
 use Rattle.clap.specs.Walk.{Row, Rule}
-use Rattle.clap.specs.Simple.{App, new_app, new_rule, with_rule}
+use Rattle.clap.specs.Simple.{App}
 use Rattle.clap.specs.Kinds.{Kinds}
 use Rattle.clap.specs.declared.builder.value_parser.ValueParser.TheVariants as parser
 use Rattle.clap.specs.declared.error.kind.ErrorKind.TheVariants.{ValueValidation}
 use Rattle.pdb_request.specs.Asked.{Asked, make_table}
-use Rattle.pdb_words.specs.Files.{file_in, needed_file}
+use Rattle.pdb_words.specs.Files.{file_in}
 use Rattle.pdb_words.specs.Masks.{mask_written}
 use Rattle.pdb_words.specs.Numbers.{number_in}
 use Rattle.pdb_words.specs.Replace.{replace_flag, replace_in}
+use Rattle.pdb_words.specs.Rows.{command, needed_file, needed_number}
 use Rattle.pdb_words.specs.Workers.{workers_flag, workers_in}
 
 -- the greatest number that may be meant for a side: that of a byte
@@ -18,7 +19,7 @@ most_side = 255
 
 -- the side, a number from 0 to 255, which has to be given
 abbrev pub needed_side : Rule
-needed_side = record (new_rule (codes "SIDE")) { required = true; parser = Some (parser.Signed (pos 0) (pos most_side)) }
+needed_side = needed_number (codes "SIDE") (parser.Signed (pos 0) (pos most_side))
 
 -- the tile mask, for `clap` any word, which has to be given
 abbrev pub needed_mask : Rule
@@ -27,8 +28,7 @@ needed_mask = needed_file (codes "MASK")
 -- the command, as `clap` sees it
 abbrev pub make_table_command : App
 make_table_command =
-    with_rule (with_rule (with_rule (with_rule (with_rule (new_app (codes "make-table")) workers_flag) replace_flag) needed_side) needed_mask)
-    (needed_file (codes "OUT"))
+    command (codes "make-table") (workers_flag ∷ replace_flag ∷ needed_side ∷ needed_mask ∷ needed_file (codes "OUT") ∷ [])
 
 -- the side that the values found of it name
 abbrev pub side_number_in : List Row → ℕ

@@ -1,10 +1,8 @@
 -- Numbers, as words write them.
-use Rattle.std.specs.Prelude.{ℕ, Bool, ◌&&◌, List, [], ◌∷◌, Option, Some, None, if◌then◌else◌, nat_le, option_and_then, unwrap_or}
+use Rattle.std.specs.Prelude.{ℕ, Bool, ◌&&◌, List, Option, Some, None, if◌then◌else◌, nat_le, option_and_then, unwrap_or}
 use Rattle.std.specs.Str.Parse.{digits_value, without_leading_plus}
-use Rattle.clap.specs.Walk.{Row, Rule, Text, one_of}
-use Rattle.clap.specs.Simple.{new_rule}
+use Rattle.clap.specs.Walk.{Row, Text, one_of}
 use Rattle.clap.specs.ValueTests.{is_numeral}
-use Rattle.clap.specs.declared.builder.value_parser.ValueParser.{ValueParser}
 
 -- the number that digits write, perhaps after a `+`
 abbrev pub number_of : Text → ℕ
@@ -25,11 +23,3 @@ optional_number_in low high id rows = option_and_then (number_written low high) 
 -- the same, or another where they have none
 abbrev pub number_in : ℕ → ℕ → ℕ → Text → List Row → ℕ
 number_in low high other id rows = unwrap_or (optional_number_in low high id rows) other
-
--- the flag `--NAME N`: a number that the parser takes
-abbrev pub optional_number_flag : Text → ValueParser → Rule
-optional_number_flag name parser = record (new_rule name) { long = Some name; value_names = 1; parser = Some parser }
-
--- the same, and without the flag the usual number
-abbrev pub number_flag : Text → ValueParser → Text → Rule
-number_flag name parser usual = record (optional_number_flag name parser) { defaults = usual ∷ [] }

@@ -1,18 +1,19 @@
 -- The words of `prove [--workers N] [--fold] [--budget N] CLAIMS SETS TABLES..`.
-use Rattle.std.specs.Prelude.{List, Option, Some, None, codes, if◌then◌else◌}
+use Rattle.std.specs.Prelude.{List, [], ◌∷◌, Option, Some, None, codes, if◌then◌else◌}
 use Rattle.std.specs.Str.{bytes_eq}
 use Rattle.clap.specs.Walk.{Row, Text}
-use Rattle.clap.specs.Simple.{App, new_app, with_rule}
+use Rattle.clap.specs.Simple.{App}
 use Rattle.pdb_request.specs.Asked.{Asked, prove}
 use Rattle.pdb_words.specs.Budget.{optional_budget_flag, optional_budget_in}
-use Rattle.pdb_words.specs.Files.{file_in, needed_file, needed_tables, tables_in, with_sets}
-use Rattle.pdb_words.specs.Fold.{fold_in}
-use Rattle.pdb_words.specs.Workers.{workers_in}
+use Rattle.pdb_words.specs.Files.{file_in, sets, tables, tables_in}
+use Rattle.pdb_words.specs.Fold.{fold_flag, fold_in}
+use Rattle.pdb_words.specs.Rows.{command, needed_file}
+use Rattle.pdb_words.specs.Workers.{workers_flag, workers_in}
 
 -- the command, as `clap` sees it
 abbrev pub prove_command : App
-prove_command = with_rule (with_rule (with_sets (with_rule (new_app (codes "prove")) (needed_file (codes "CLAIMS")))) needed_tables)
-    optional_budget_flag
+prove_command =
+    command (codes "prove") (needed_file (codes "CLAIMS") ∷ workers_flag ∷ fold_flag ∷ sets ∷ tables ∷ optional_budget_flag ∷ [])
 
 -- the file that a name stands for, or none for `-`, which stands for standard input
 abbrev pub file_or_input : Text → Option Text

@@ -1,12 +1,13 @@
 -- The words of `replay [FILE]`.
-use Rattle.std.specs.Prelude.{List, None, codes}
+use Rattle.std.specs.Prelude.{List, [], ◌∷◌, None, codes}
 use Rattle.clap.specs.Walk.{Row, first_of}
-use Rattle.clap.specs.Simple.{App, new_app, new_rule, with_rule}
+use Rattle.clap.specs.Simple.{App, new_rule}
 use Rattle.pdb_request.specs.Asked.{Asked, replay}
+use Rattle.pdb_words.specs.Rows.{command}
 
 -- the command, as `clap` sees it
 abbrev pub replay_command : App
-replay_command = with_rule (new_app (codes "replay")) (new_rule (codes "FILE"))
+replay_command = command (codes "replay") (new_rule (codes "FILE") ∷ [])
 
 -- what the values found of it ask for
 abbrev pub replay_in : List Row → Asked

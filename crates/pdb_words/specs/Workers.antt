@@ -5,11 +5,12 @@ use Rattle.clap.specs.declared.builder.value_parser.ValueParser.TheVariants as p
 use Rattle.book_core.specs.Books.{AreWorkers, most_workers}
 use Rattle.pdb_request.specs.declared.requests.Request.{Request}
 use Rattle.pdb_request.specs.declared.requests.Request.TheVariants as request
-use Rattle.pdb_words.specs.Numbers.{number_flag, number_in}
+use Rattle.pdb_words.specs.Numbers.{number_in}
+use Rattle.pdb_words.specs.Rows.{usual_number_flag}
 
 -- the flag, as `clap` sees it
 abbrev pub workers_flag : Rule
-workers_flag = number_flag (codes "workers") (parser.Signed (pos 1) (pos most_workers)) (codes "1")
+workers_flag = usual_number_flag (codes "workers") (parser.Signed (pos 1) (pos most_workers)) (codes "1")
 
 -- how many workers the values found of a command ask for
 abbrev pub workers_in : List Row → ℕ

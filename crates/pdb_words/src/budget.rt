@@ -1,15 +1,14 @@
 //! The flag `--budget N`.
 
 ghost use Rattle.std.specs.Prelude.{◌≡◌, IfSome};
-ghost use Rattle.clap.specs.Words.{rule_of};
 ghost use Rattle.pdb_request.specs.Asked.{IsBudget};
 ghost use Rattle.pdb_words.specs.Arguments.{rows_found};
-ghost use Rattle.pdb_words.specs.Budget.{budget_flag, budget_in, budget_parser, optional_budget_flag, optional_budget_in};
+ghost use Rattle.pdb_words.specs.Budget.{budget_in, optional_budget_in};
 
-use crate::numbers::{number_flag, number_in, optional_number_flag, optional_number_in};
+use crate::numbers::{number_in, optional_number_in};
+use crate::rows::{Kind, Row};
+use clap::ArgMatches;
 use clap::builder::ValueParser;
-use clap::{Arg, ArgMatches, value_parser};
-use std::alloc::Global;
 
 /// A search may be let expand so many boards at most.
 const MOST_BUDGET: u64 = 1_000_000_000_000;
@@ -17,30 +16,19 @@ const MOST_BUDGET: u64 = 1_000_000_000_000;
 /// So many boards may be expanded where the words don't say how many.
 const USUAL_BUDGET: u64 = 1_000_000;
 
-/// The numbers that the flag takes.
-fn budget_parser<'a>() -> ValueParser<'a>
-    ensures { result ≡ budget_parser }
-{
-    value_parser!(u64).range(1..=MOST_BUDGET as i64)
-}
+/// The flag with a usual budget.
+pub(crate) const USUAL: Row<'static> = Row {
+    id: "budget",
+    kind: Kind::UsualNumberFlag(ValueParser::Unsigned(1, MOST_BUDGET), "1000000"),
+    help: "How many boards the search may expand, 1 to 1000000000000",
+};
 
-/// The flag with a usual budget, for `clap`.
-pub(crate) fn budget_flag<'a>(alloc: Global) -> Arg<'a>
-    ensures { rule_of result ≡ budget_flag }
-{
-    number_flag(alloc, "budget", budget_parser(), "1000000").help(
-        "How many boards the search may expand, 1 to 1000000000000",
-    )
-}
-
-/// The flag without a usual budget, for `clap`.
-pub(crate) fn optional_budget_flag<'a>(alloc: Global) -> Arg<'a>
-    ensures { rule_of result ≡ optional_budget_flag }
-{
-    optional_number_flag(alloc, "budget", budget_parser()).help(
-        "How many boards may be expanded for a claim, 1 to 1000000000000; without it as many as it takes",
-    )
-}
+/// The flag without a usual budget.
+pub(crate) const OPTIONAL: Row<'static> = Row {
+    id: "budget",
+    kind: Kind::NumberFlag(ValueParser::Unsigned(1, MOST_BUDGET)),
+    help: "How many boards may be expanded for a claim, 1 to 1000000000000; without it as many as it takes",
+};
 
 /// How many boards these matches of a command let a search expand: the usual budget where they don't say it.
 pub(crate) fn budget_in(found: &ArgMatches<'_>) -> u64

@@ -10,13 +10,13 @@ ghost use Rattle.pdb_words.specs.Commands.{IsCommand};
 ghost use Rattle.pdb_words.specs.Faults.{IsCauseOfWordFault, IsMistakeOrMemory, IsPlainlySaid};
 ghost use Rattle.pdb_words.specs.Workers.{HasWorkers};
 
-use crate::commands::with_statuses;
 use crate::faults::{WordFault, even_count_text, fault_by, mistake, wrong_mask_text};
 use crate::log_checks::{bound_command, check_in, optimal_command};
 use crate::make_table::{make_table_command, make_table_in, wrong_mask_in};
 use crate::parts::{count_in, has_odd_count, parts_command, parts_in};
 use crate::prove::{prove_command, prove_in};
 use crate::replay::{replay_command, replay_in};
+use crate::rows::with_statuses;
 use crate::solve::{solve_command, solve_in};
 use crate::table::{table_command, table_in};
 use clap::{ArgMatches, Command};

@@ -3,7 +3,6 @@
 
 mod budget;
 mod command_line;
-mod commands;
 mod faults;
 mod files;
 mod fold;
@@ -15,6 +14,7 @@ mod parts;
 mod prove;
 mod replace;
 mod replay;
+mod rows;
 mod solve;
 mod table;
 mod workers;

@@ -2,79 +2,67 @@
 
 ghost use Rattle.std.specs.Prelude.{◌≡◌, ◌∷◌, [], IfOk};
 ghost use Rattle.std.specs.Option.{MatchOption};
-ghost use Rattle.clap.specs.Words.{app_of, rule_of, with_rule};
 ghost use Rattle.clap.specs.declared.error.kind.ErrorKind.TheVariants.{ValueValidation};
+ghost use Rattle.clap.specs.Words.{app_of};
 ghost use Rattle.pdb_request.specs.Asked.{HasBudget, request_shown};
 ghost use Rattle.pdb_words.specs.Arguments.{rows_found};
-ghost use Rattle.pdb_words.specs.MakeTable.{make_table_command, make_table_in, mask_faults, mask_in, mask_number_in, needed_mask, needed_side, side_number_in};
+ghost use Rattle.pdb_words.specs.MakeTable.{make_table_command, make_table_in, mask_faults, mask_in, mask_number_in, side_number_in};
 ghost use Rattle.pdb_words.specs.Workers.{HasWorkers};
 
-use crate::commands::{new_command, with_argument, with_statuses};
-use crate::files::{file_in, with_file};
+use crate::files::file_in;
 use crate::masks::mask_written;
 use crate::numbers::number_in;
-use crate::replace::{replace_in, with_replace};
-use crate::workers::{with_workers, workers_in};
-use clap::{Arg, ArgMatches, Command, value_parser};
+use crate::replace::{REPLACE, replace_in};
+use crate::rows::{Kind, Page, Row, command_of, with_statuses};
+use crate::workers::{WORKERS, workers_in};
+use clap::builder::ValueParser;
+use clap::{ArgMatches, Command};
 use pdb_request::{MakeTable, Request};
 use std::alloc::{AllocError, Global};
 
-/// What stands at the end of its help.
-const AFTER_HELP: &str = with_statuses!(
-    "Building uses all processors, whatever --workers says: workers share the check behind it.
+/// The side of a pattern.
+const SIDE: Row<'static> = Row {
+    id: "SIDE",
+    kind: Kind::Number(ValueParser::Signed(0, 255)),
+    help: "The side of the puzzle, 2 to 5",
+};
+
+/// The tile mask of a pattern.
+const MASK: Row<'static> = Row {
+    id: "MASK",
+    kind: Kind::Word,
+    help: "The tiles of the pattern: tiles:1,2,3,4, or the sum of 2^t over its tiles t, as 30 or 0x1e",
+};
+
+/// The command: its help, and what it takes, for `clap`.
+pub(crate) fn make_table_command<'a>(alloc: Global) -> Result<Command<'a>, AllocError>
+    ensures { IfOk result (λ c. app_of c ≡ make_table_command) }
+{
+    let page = Page {
+        name: "make-table",
+        about: "Makes the table of a pattern, and keeps it if it is exact",
+        usage: "pdb_cli make-table [--workers N] [--replace] SIDE MASK OUT",
+        after_help: with_statuses!(
+            "Building uses all processors, whatever --workers says: workers share the check behind it.
 OUT is replaced once the table is found exact; until then, and otherwise, it stays as it is.
 An OUT that begins as a log does is replaced only with --replace.
 
 Reads no file. Answers the digest of the table and `exact ..`, or `refused ..` and why.",
-    ""
-);
-
-/// The command, for `clap`.
-pub(crate) fn make_table_command<'a>(alloc: Global) -> Result<Command<'a>, AllocError>
-    ensures { IfOk result (λ c. app_of c ≡ make_table_command) }
-{
-    let command = new_command(
-        alloc,
-        "make-table",
-        "Makes the table of a pattern, and keeps it if it is exact",
-        "pdb_cli make-table [--workers N] [--replace] SIDE MASK OUT",
-        AFTER_HELP,
-    );
-    let command = with_workers(alloc, command)?;
-    let command = with_replace(alloc, command)?;
-    let command = with_pattern(alloc, command)?;
-    with_file(alloc, command, "OUT", "The file that is to hold the table")
-}
-
-/// A command with `SIDE MASK` behind what it has.
-#[tactic(auto, using(crate::proofs::ArgumentLemmas::has_rule))]
-fn with_pattern<'a>(alloc: Global, command: Command<'a>) -> Result<Command<'a>, AllocError>
-    ensures { IfOk result (λ c.
-        app_of c ≡ with_rule (with_rule (app_of command.entry) needed_side) needed_mask) }
-{
-    let command = with_argument(command, needed_side(alloc))?;
-    with_argument(command, needed_mask(alloc))
-}
-
-/// The side of a pattern.
-fn needed_side<'a>(alloc: Global) -> Arg<'a>
-    ensures { rule_of result ≡ needed_side }
-{
-    Arg::new(alloc, "SIDE")
-        .help("The side of the puzzle, 2 to 5")
-        .required(true)
-        .value_parser(value_parser!(u8))
-}
-
-/// The tile mask of a pattern.
-fn needed_mask<'a>(alloc: Global) -> Arg<'a>
-    ensures { rule_of result ≡ needed_mask }
-{
-    Arg::new(alloc, "MASK")
-        .help(
-            "The tiles of the pattern: tiles:1,2,3,4, or the sum of 2^t over its tiles t, as 30 or 0x1e",
-        )
-        .required(true)
+            ""
+        ),
+    };
+    let rows = [
+        WORKERS,
+        REPLACE,
+        SIDE,
+        MASK,
+        Row {
+            id: "OUT",
+            kind: Kind::Word,
+            help: "The file that is to hold the table",
+        },
+    ];
+    command_of(alloc, page, &rows)
 }
 
 /// The side that these matches of the command name.

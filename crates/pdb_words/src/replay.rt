@@ -7,31 +7,31 @@ ghost use Rattle.pdb_words.specs.Arguments.{rows_found};
 ghost use Rattle.pdb_words.specs.Replay.{replay_command, replay_in};
 ghost use Rattle.pdb_words.specs.Workers.{HasWorkers};
 
-use crate::commands::{new_command, with_argument, with_statuses};
-use clap::{Arg, ArgMatches, Command};
+use crate::rows::{Kind, Page, Row, command_of, with_statuses};
+use clap::{ArgMatches, Command};
 use pdb_request::{Replay, Request};
 use std::alloc::{AllocError, Global};
 
-/// What stands at the end of its help.
-const AFTER_HELP: &str = with_statuses!(
-    "Reads a puzzle text: a board, `;`, and letters U, D, L, R that say where the blank goes.
-Answers `solution N`, or `refused ..` with what is wrong first.",
-    ""
-);
-
-/// The command, for `clap`.
+/// The command: its help, and what it takes, for `clap`.
 pub(crate) fn replay_command<'a>(alloc: Global) -> Result<Command<'a>, AllocError>
     ensures { IfOk result (λ c. app_of c ≡ replay_command) }
 {
-    let file = Arg::new(alloc, "FILE").help("A puzzle text; without it, standard input");
-    let command = new_command(
-        alloc,
-        "replay",
-        "Plays the moves of a puzzle text, and says whether they solve its board",
-        "pdb_cli replay [FILE]",
-        AFTER_HELP,
-    );
-    with_argument(command, file)
+    let page = Page {
+        name: "replay",
+        about: "Plays the moves of a puzzle text, and says whether they solve its board",
+        usage: "pdb_cli replay [FILE]",
+        after_help: with_statuses!(
+            "Reads a puzzle text: a board, `;`, and letters U, D, L, R that say where the blank goes.
+Answers `solution N`, or `refused ..` with what is wrong first.",
+            ""
+        ),
+    };
+    let rows = [Row {
+        id: "FILE",
+        kind: Kind::OptionalWord,
+        help: "A puzzle text; without it, standard input",
+    }];
+    command_of(alloc, page, &rows)
 }
 
 /// What these matches of the command ask for.

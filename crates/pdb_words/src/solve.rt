@@ -7,19 +7,26 @@ ghost use Rattle.pdb_words.specs.Arguments.{rows_found};
 ghost use Rattle.pdb_words.specs.Solve.{solve_command, solve_in};
 ghost use Rattle.pdb_words.specs.Workers.{HasWorkers};
 
-use crate::budget::{budget_flag, budget_in};
-use crate::commands::{new_command, with_argument, with_statuses};
-use crate::files::{file_in, tables_in, with_file, with_log};
-use crate::fold::fold_in;
-use crate::replace::{replace_in, with_replace};
-use crate::workers::workers_in;
+use crate::budget::{USUAL, budget_in};
+use crate::files::{SETS, TABLES, file_in, files_in};
+use crate::fold::{FOLD, fold_in};
+use crate::replace::{REPLACE, replace_in};
+use crate::rows::{Kind, Page, Row, command_of, with_statuses};
+use crate::workers::{WORKERS, workers_in};
 use clap::{ArgMatches, Command};
 use pdb_request::{Request, Solve};
 use std::alloc::{AllocError, Global};
 
-/// What stands at the end of its help.
-const AFTER_HELP: &str = with_statuses!(
-    "The budget is in boards expanded. The usual 1000000 is enough for most boards of side 4 over
+/// The command: its help, and what it takes, for `clap`.
+pub(crate) fn solve_command<'a>(alloc: Global) -> Result<Command<'a>, AllocError>
+    ensures { IfOk result (λ c. app_of c ≡ solve_command) }
+{
+    let page = Page {
+        name: "solve",
+        about: "Searches for a shortest solution of a board, and keeps the log that proves it",
+        usage: "pdb_cli solve [--workers N] [--fold] [--budget N] [--replace] BOARD SETS OUT TABLES..",
+        after_help: with_statuses!(
+            "The budget is in boards expanded. The usual 1000000 is enough for most boards of side 4 over
 three tables of five tiles whose solutions have fewer than about 55 moves; harder ones take
 2 to 10 million. Where it is spent, the answer is `refused K1`.
 The search is one thread's work, whatever --workers says: workers share the checks. Tables
@@ -30,24 +37,28 @@ OUT that is an input, or that begins as a table does, is replaced only with --re
 
 Reads BOARD, SETS and TABLES. Answers the digests of the tables and the log, `moves ..` and
 `optimal N`, or `refused ..` and why.",
-    ""
-);
-
-/// The command, for `clap`.
-pub(crate) fn solve_command<'a>(alloc: Global) -> Result<Command<'a>, AllocError>
-    ensures { IfOk result (λ c. app_of c ≡ solve_command) }
-{
-    let command = new_command(
-        alloc,
-        "solve",
-        "Searches for a shortest solution of a board, and keeps the log that proves it",
-        "pdb_cli solve [--workers N] [--fold] [--budget N] [--replace] BOARD SETS OUT TABLES..",
-        AFTER_HELP,
-    );
-    let command = with_file(alloc, command, "BOARD", "A board text")?;
-    let command = with_log(alloc, command, "OUT", "The file that is to hold the log")?;
-    let command = with_argument(command, budget_flag(alloc))?;
-    with_replace(alloc, command)
+            ""
+        ),
+    };
+    let rows = [
+        Row {
+            id: "BOARD",
+            kind: Kind::Word,
+            help: "A board text",
+        },
+        WORKERS,
+        FOLD,
+        SETS,
+        Row {
+            id: "OUT",
+            kind: Kind::Word,
+            help: "The file that is to hold the log",
+        },
+        TABLES,
+        USUAL,
+        REPLACE,
+    ];
+    command_of(alloc, page, &rows)
 }
 
 /// What these matches of the command ask for.
@@ -61,7 +72,7 @@ pub(crate) fn solve_in<'a>(alloc: Global, found: &ArgMatches<'a>) -> Result<Requ
         sets: file_in(found, "SETS"),
         out: file_in(found, "OUT"),
         replace: replace_in(found),
-        tables: tables_in(alloc, found)?,
+        tables: files_in(alloc, found, "TABLES")?,
         workers: workers_in(found),
         fold: fold_in(found),
         budget: budget_in(found),

@@ -7,33 +7,36 @@ ghost use Rattle.pdb_words.specs.Arguments.{rows_found};
 ghost use Rattle.pdb_words.specs.Table.{table_command, table_in};
 ghost use Rattle.pdb_words.specs.Workers.{HasWorkers};
 
-use crate::commands::{new_command, with_statuses};
-use crate::files::{file_in, with_file};
-use crate::workers::{with_workers, workers_in};
+use crate::files::file_in;
+use crate::rows::{Kind, Page, Row, command_of, with_statuses};
+use crate::workers::{WORKERS, workers_in};
 use clap::{ArgMatches, Command};
 use pdb_request::{Request, TableCheck};
 use std::alloc::{AllocError, Global};
 
-/// What stands at the end of its help.
-const AFTER_HELP: &str = with_statuses!(
-    "Reads one table file. Answers its digest and `exact ..`, or `refused ..` with what is
-wrong first.",
-    ""
-);
-
-/// The command, for `clap`.
+/// The command: its help, and what it takes, for `clap`.
 pub(crate) fn table_command<'a>(alloc: Global) -> Result<Command<'a>, AllocError>
     ensures { IfOk result (λ c. app_of c ≡ table_command) }
 {
-    let command = new_command(
-        alloc,
-        "table",
-        "Says whether a table file is exact",
-        "pdb_cli table [--workers N] FILE",
-        AFTER_HELP,
-    );
-    let command = with_workers(alloc, command)?;
-    with_file(alloc, command, "FILE", "A table file")
+    let page = Page {
+        name: "table",
+        about: "Says whether a table file is exact",
+        usage: "pdb_cli table [--workers N] FILE",
+        after_help: with_statuses!(
+            "Reads one table file. Answers its digest and `exact ..`, or `refused ..` with what is
+wrong first.",
+            ""
+        ),
+    };
+    let rows = [
+        WORKERS,
+        Row {
+            id: "FILE",
+            kind: Kind::Word,
+            help: "A table file",
+        },
+    ];
+    command_of(alloc, page, &rows)
 }
 
 /// What these matches of the command ask for.

@@ -10,8 +10,8 @@ use Rattle.puz_search.specs.Searches.{AtChild, InTurn, PartFails, leaves_out, mo
 use Rattle.puz_search.specs.declared.frontiers.Frontier.{Frontier}
 use Rattle.puz_search.specs.declared.nodes.Node.{Node}
 use Rattle.puz_search.specs.declared.searches.Search.{Search}
-use Rattle.puz_search.specs.declared.outcomes.Outcome.{Outcome}
-use Rattle.puz_search.specs.declared.outcomes.Outcome.TheVariants.{Refuted, Spent, Open}
+use Rattle.puz_search.specs.declared.outcomes.JobOutcome.{JobOutcome}
+use Rattle.puz_search.specs.declared.outcomes.JobOutcome.TheVariants.{Refuted, Spent, Open}
 
 -- ---- counts
 
@@ -56,16 +56,16 @@ pub record IsFrontier (s : Search) (frontier : Frontier) : Type 0 where
 -- ---- the jobs of workers
 
 -- how the search below a node ended
-abbrev pub IsOutcome : Search → Node → Outcome → Type 0
+abbrev pub IsOutcome : Search → Node → JobOutcome → Type 0
 IsOutcome s node (Refuted boards) = node_fails s node boards
 IsOutcome s node (Spent budget) = ((boards : ℕ) → node_fails s node boards → budget < boards) × (budget < most_boards node.bound)
 IsOutcome s node Open = ⊤
 
 -- how that of the node with this number did
-abbrev pub IsOutcomeOf : Search → List Node → ℕ → Outcome → Type 0
+abbrev pub IsOutcomeOf : Search → List Node → ℕ → JobOutcome → Type 0
 IsOutcomeOf s nodes job outcome = (other : Node) → IsOutcome s (slice_index_or nodes job other) outcome
 
 -- how those of all nodes did
-abbrev pub AreOutcomesOf : Search → List Node → List Outcome → Type 0
+abbrev pub AreOutcomesOf : Search → List Node → List JobOutcome → Type 0
 AreOutcomesOf s nodes outcomes =
-    (length outcomes ≡ length nodes) × ((job : ℕ) (other : Outcome) → job < length nodes → IsOutcomeOf s nodes job (slice_index_or outcomes job other))
+    (length outcomes ≡ length nodes) × ((job : ℕ) (other : JobOutcome) → job < length nodes → IsOutcomeOf s nodes job (slice_index_or outcomes job other))

@@ -27,7 +27,8 @@ pub enum Deepened {
     Beyond,
 }
 
-/// Searches for a shortest solution of a board, threshold by threshold (Korf 1985), and expands at most `budget` boards in all.
+/// Searches for a shortest solution of a board by IDA*, threshold by threshold (Korf 1985), and expands at most `budget` boards
+/// in all.
 ///
 /// The first threshold is one more than the parity that all solutions of the board have, and each next one two more: below a
 /// threshold `refute` searches.

@@ -100,10 +100,6 @@ fn expand(task: &Search<'_>, node: Node, next: &mut Vec<Node>) -> Result<bool, A
             let walk = WordWalk::new(words, &node.board, &node.sums, node.bound);
             expand_by(task, node, walk, next)
         }
-        Sets::Mixed(mixed) => {
-            let walk = SumWalk::over(mixed, &node.board, node.bound);
-            expand_by(task, node, walk, next)
-        }
     }
 }
 

@@ -8,7 +8,7 @@ ghost use Rattle.puz_search.specs.StoredGuides.{bundle_of};
 
 use move_strings::Automaton;
 use puz_board::{Move, Side};
-use puz_walk::{MixedBundle, WordBundle};
+use puz_walk::WordBundle;
 use set_sum::Bundle;
 use std::marker::Model;
 
@@ -19,8 +19,6 @@ pub enum Sets<'a> {
     Sums(&'a Bundle<'a>),
     /// What moves do to their sums is read from edge words.
     Words(&'a WordBundle<'a>),
-    /// They are asked for their sums. What moves do to these is read from edge words where a table has some.
-    Mixed(&'a MixedBundle<'a>),
 }
 
 impl Sets<'_> {
@@ -32,7 +30,6 @@ impl Sets<'_> {
         match self {
             Sets::Sums(bundle) => bundle.side(),
             Sets::Words(words) => words.side(),
-            Sets::Mixed(mixed) => mixed.side(),
         }
     }
 }

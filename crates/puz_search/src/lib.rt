@@ -1,4 +1,5 @@
-//! Depth-first searches that refute, with no log, that a board has a solution of fewer moves than a bound (Korf 1985).
+//! Depth-first searches that refute, with no log, that a board has a solution of fewer moves than a bound: IDA* (Korf 1985),
+//! with moves pruned by a finite automaton (Taylor and Korf 1993).
 #![tactic(auto)]
 
 mod answers;

@@ -17,7 +17,7 @@ use work_share::Task;
 
 /// How the search below a node ended.
 #[derive(Clone, Copy, Debug, PartialEq, Eq)]
-pub(crate) enum Outcome {
+pub(crate) enum JobOutcome {
     /// It failed, and expanded so many boards.
     Refuted(u64),
     /// This budget ended first.
@@ -45,7 +45,7 @@ impl<'a, G: Gate> Task for SearchNodes<'a, G> {
     ghost use Rattle.std.specs.Prelude.{length};
     ghost use Rattle.puz_search.specs.Frontiers.{IsOutcomeOf};
 
-    type Outcome = Outcome;
+    type Outcome = JobOutcome;
 
     ghost jobs = { λ all. length all.nodes.now };
 
@@ -56,12 +56,12 @@ impl<'a, G: Gate> Task for SearchNodes<'a, G> {
     }
 
     // What other jobs have expanded and found is a hint: with any other the outcome would be true as well.
-    fn run(&self, job: usize) -> Outcome {
+    fn run(&self, job: usize) -> JobOutcome {
         let budget = self
             .budget
             .saturating_sub(self.expanded.load(Ordering::SeqCst));
         if budget == 0 || self.solved.load(Ordering::SeqCst) < job {
-            return Outcome::Open;
+            return JobOutcome::Open;
         }
         let mut effort = Effort::within(budget);
         let answer = refute_node(self.task, &self.nodes[job], &mut effort);
@@ -69,12 +69,12 @@ impl<'a, G: Gate> Task for SearchNodes<'a, G> {
         self.expanded.fetch_add(expanded, Ordering::SeqCst);
         self.gate.expanded(expanded);
         match answer {
-            SearchAnswer::Refuted(boards) => Outcome::Refuted(boards),
+            SearchAnswer::Refuted(boards) => JobOutcome::Refuted(boards),
             SearchAnswer::Solved(_) => {
                 self.solved.store(job, Ordering::SeqCst);
-                Outcome::Open
+                JobOutcome::Open
             }
-            SearchAnswer::Spent => Outcome::Spent(budget),
+            SearchAnswer::Spent => JobOutcome::Spent(budget),
         }
     }
 }
@@ -83,7 +83,7 @@ impl<'a, G: Gate> Task for SearchNodes<'a, G> {
 pub(crate) fn settle(
     task: &Search<'_>,
     nodes: &[Node],
-    outcomes: &[Outcome],
+    outcomes: &[JobOutcome],
     budget: u64,
 ) -> SearchAnswer
     requires led { All (IsLed task.now) nodes.now }
@@ -105,17 +105,17 @@ pub(crate) fn settle(
 }
 
 /// What the search below a node answers within a budget, by the outcome of its job where that tells.
-fn settle_node(task: &Search<'_>, node: &Node, outcome: Outcome, budget: u64) -> SearchAnswer
+fn settle_node(task: &Search<'_>, node: &Node, outcome: JobOutcome, budget: u64) -> SearchAnswer
     requires led { IsLed task.now node.now }
     requires outcome { IsOutcome task.now node.now outcome }
     ensures { IsPartAnswer (node_fails task.now node.now) (most_boards node.now.bound)
         (solves_first task.now) budget result }
 {
     match outcome {
-        Outcome::Refuted(boards) if boards <= budget => SearchAnswer::Refuted(boards),
-        Outcome::Refuted(_) => SearchAnswer::Spent,
-        Outcome::Spent(had) if budget <= had => SearchAnswer::Spent,
-        Outcome::Spent(_) => refute_node(task, node, &mut Effort::within(budget)),
-        Outcome::Open => refute_node(task, node, &mut Effort::within(budget)),
+        JobOutcome::Refuted(boards) if boards <= budget => SearchAnswer::Refuted(boards),
+        JobOutcome::Refuted(_) => SearchAnswer::Spent,
+        JobOutcome::Spent(had) if budget <= had => SearchAnswer::Spent,
+        JobOutcome::Spent(_) => refute_node(task, node, &mut Effort::within(budget)),
+        JobOutcome::Open => refute_node(task, node, &mut Effort::within(budget)),
     }
 }

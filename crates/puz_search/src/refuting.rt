@@ -44,8 +44,8 @@ impl PartBound {
     }
 }
 
-/// Searches for a solution of a board of fewer moves than a bound, depth first, and expands at most `budget` boards
-/// (Korf 1985). Moves that the guide's automaton leaves out aren't tried (Taylor and Korf 1993).
+/// Searches for a solution of a board of fewer moves than a bound, depth first, and expands at most `budget` boards: one
+/// iteration of IDA* (Korf 1985). Moves that the guide's automaton leaves out aren't tried (Taylor and Korf 1993).
 ///
 /// A board is expanded where its moves are tried. At any time at most 255 boards are, one inside the other.
 pub fn refute(guide: &Guide<'_>, start: &Start, bound: u8, budget: u64) -> SearchAnswer
@@ -129,10 +129,6 @@ pub(crate) fn refute_node(task: &Search<'_>, node: &Node, effort: &mut Effort) -
             refute_by_walk(task, node, walk, effort)
         }
         Sets::Words(words) => refute_over_words(task, node, words, effort),
-        Sets::Mixed(mixed) => {
-            let walk = SumWalk::over(mixed, &node.board, node.bound);
-            refute_by_walk(task, node, walk, effort)
-        }
     }
 }
 

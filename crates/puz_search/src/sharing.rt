@@ -26,8 +26,7 @@ use work_share::share;
 /// A search that expands no more boards is over sooner than it is shared.
 const FEW_BOARDS: u64 = 1 << 16;
 
-/// Searches as `refute` does, by these workers at once: the answer means the same, and is the same for each number of workers, but
-/// where a solution is found with the budget all but spent: the boards of the frontier that lie behind it count too.
+/// Searches as `refute` does, by these workers at once: the answer means the same, and is the same for each number of workers.
 ///
 /// A small search is the caller's alone. A larger one is cut at the boards a few moves away, and the workers search below these.
 /// The budget counts the boards of all of them. Where it ends, the workers may have expanded more: each at most the budget that

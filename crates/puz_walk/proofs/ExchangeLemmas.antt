@@ -6,7 +6,6 @@ use Rattle.tab_rule.specs.declared.tables.Count.TheVariants.{Finite}
 use Rattle.set_sum.specs.Bundles.{ShownBundle, BundleSays, IsBundle}
 use Rattle.set_sum.specs.Known.{said_by}
 use Rattle.set_sum.specs.Members.{MemberSays}
-use Rattle.puz_walk.specs.MixedBundles.{AreOfTables}
 use Rattle.puz_walk.specs.StoredWords.{AreOwnersOf, HasNoOwner, IsOwner}
 use Rattle.puz_walk.specs.Tallies.{AreLow, AreTallied, AreTold, IsSlideOf, IsTallied, IsTold, entry_place}
 use Rattle.puz_walk.specs.declared.owners.Owner.{Owner}
@@ -27,7 +26,6 @@ module _ (v : ShownBundle) (b next : List ℕ) (tile : ℕ) where
     pub sums_room : length tally.sums ≡ 16
     pub entries_room : length tally.entries ≡ 512
     pub told_room : length told ≡ 16
-    pub words : AreOfTables v tally.words.now
     pub owners : AreOwnersOf v tally.owners
     pub first : tally.first < length v.sets
     pub done : (set : ℕ) → set < count → set < length v.sets → IsSide next b tally told set
@@ -39,7 +37,6 @@ module _ (v : ShownBundle) (b next : List ℕ) (tile : ℕ) where
     sums_room = kept.sums_room;
     entries_room = kept.entries_room;
     told_room = says.room;
-    words = kept.words;
     owners = kept.owners;
     first = kept.first;
     done = λ set less there. absurd (omega arith);
@@ -52,7 +49,6 @@ module _ (v : ShownBundle) (b next : List ℕ) (tile : ℕ) where
     half_tallied all = record {
       sums_room = half.sums_room;
       entries_room = half.entries_room;
-      words = half.words;
       owners = half.owners;
       first = half.first;
       each = λ set there. (half.done set (omega arith) there).tallied;
@@ -72,7 +68,6 @@ module _ (v : ShownBundle) (b next : List ℕ) (tile : ℕ) where
         sums_room = half.sums_room;
         entries_room = half.entries_room;
         told_room = half.told_room;
-        words = half.words;
         owners = half.owners;
         first = half.first;
         done = λ set less there. elim (cases_eq set count) [
@@ -127,7 +122,6 @@ module _ (v : ShownBundle) (b next : List ℕ) (tile : ℕ) where
 
           -- a set whose owner follows the move
           pub half_moves : IsHalf (count + 1) (record {
-            words = tally.words;
             owners = tally.owners;
             sums = slice_set tally.sums count (slice_index tally.sums count - old + new);
             first = tally.first;
@@ -137,7 +131,6 @@ module _ (v : ShownBundle) (b next : List ℕ) (tile : ℕ) where
             sums_room = length-set _ _ _ ∙ half.sums_room;
             entries_room = length-set _ _ _ ∙ half.entries_room;
             told_room = length-set _ _ _ ∙ half.told_room;
-            words = half.words;
             owners = half.owners;
             first = half.first;
             done = λ set less there. elim (cases_eq set count) [
@@ -158,7 +151,6 @@ module _ (v : ShownBundle) (b next : List ℕ) (tile : ℕ) where
             where
               now : Tally
               now = record {
-                words = tally.words;
                 owners = tally.owners;
                 sums = slice_set tally.sums count (slice_index tally.sums count - old + new);
                 first = tally.first;

@@ -15,14 +15,13 @@ use Rattle.puz_board.proofs.HasLemmas.{has-get}
 use Rattle.pat_place.specs.Patterns.{IsPattern, ShownPattern, most_tiles}
 use Rattle.tab_rule.specs.declared.tables.Count.TheVariants.{Finite}
 use Rattle.edge_words.specs.Spots.{IsIndexStep, IsStepOf, IsTileStep, index_on}
-use Rattle.edge_words.specs.Words.{IsEdgeWord, RisesOrFalls, ShownWords, bit_number}
+use Rattle.edge_words.specs.Words.{IsEdgeWord, IsTileMove, RisesOrFalls, ShownWords, bit_number}
 use Rattle.set_sum.specs.Bundles.{ShownBundle, BundleSays, IsBundle, IsSetOf, set_of}
 use Rattle.set_sum.specs.Members.{MemberSays, board_for, table_of, table_pattern}
 use Rattle.set_sum.specs.declared.members.Member.{Member}
 use Rattle.set_sum.proofs.AnswerLemmas.{all_get}
 use Rattle.set_sum.proofs.ListLemmas.{all_at, get_or-slice_get}
 use Rattle.puz_walk.specs.StoredWords.{HasNoOwner, IsOwner, cell_for, move_for}
-use Rattle.puz_walk.specs.Tallies.{IsMoveOf}
 use Rattle.puz_walk.specs.WordBundles.{HaveWords, pattern_at}
 use Rattle.puz_walk.specs.WordSpots.{AreKeptOf, HasPlaces, IsFoundOn, IsShift, Shifts, member_place}
 use Rattle.puz_walk.specs.declared.word_spots.Kept.{Kept}
@@ -110,13 +109,6 @@ module _ (v : ShownBundle) (bundle : IsBundle v) (set : ℕ) (low : set < length
   owner_takes tile owner is =
       let tiles = table_pattern v.tables owner.member in
       subst (λ t. has tiles t ≡ true) is.is (has-get tiles owner.tile (slice_index tiles owner.tile) (get_or-slice_get tiles owner.tile 0 is.low))
-
--- the move of the board that the tile's owner looks up is one of its own tile
-pub owner_moves : (v : ShownBundle) (set : ℕ) (move : Move) (b next : List ℕ) (tile from to : ℕ) → IsStepOf v.side move b next tile from to
-    → (owner : Owner) → IsOwner v set tile owner → IsMoveOf v owner move b next
-owner_moves v set move b next tile from to step owner is =
-    let looked = step_for v.side move b next tile from to step owner.member in
-    record { board = looked.board; leads = looked.leads; is_index = is.low; tile = sym looked.tile_is ∙ sym is.is }
 
 -- what was found at another place than the one that is set is found there still
 pub found_set : (kept : Kept) (place index word other : ℕ) → other ≢ place → (p : ShownPattern) (b : List ℕ)
@@ -218,8 +210,11 @@ module _ (v : ShownBundle) (bundle : IsBundle v) (words : List ShownWords) (have
       own_takes : has (table_pattern v.tables own) (cell_for v.side own tile) ≡ true
       own_takes = owner_takes v bundle set low tile owner is
 
-      moves : IsMoveOf v owner move b next
-      moves = owner_moves v set move b next tile from to step owner is
+      -- the move of the board that the owner looks up is one of its tile
+      pub owner_moves : IsTileMove (pattern_at v own.table) owner.tile (move_for own move) (board_for own b) (board_for own next)
+      owner_moves =
+          let looked = step_for v.side move b next tile from to step own in
+          record { board = looked.board; leads = looked.leads; is_index = is.low; tile = sym looked.tile_is ∙ sym is.is }
 
       -- and the board after it is one of the side
       pub owner_board : IsBoardOf v.side (board_for own next)
@@ -230,14 +225,14 @@ module _ (v : ShownBundle) (bundle : IsBundle v) (words : List ShownWords) (have
       pub owner_index : (added index : ℕ) → IsIndexStep (pattern_at v own.table) owner.tile (move_for own move) added
           → index ≡ index_on (pattern_at v own.table) (board_for own b) → (index + added) % 2 ^ 32 ≡ index_on (pattern_at v own.table) (board_for own next)
       owner_index added index adds is_index =
-          ap (λ k. (k + added) % 2 ^ 32) is_index ∙ sym (adds (board_for own b) (board_for own next) moves)
+          ap (λ k. (k + added) % 2 ^ 32) is_index ∙ sym (adds (board_for own b) (board_for own next) owner_moves)
 
       -- on the boards that the tile's owner looks up, the move is a step of its own tile, with the blank's cells looked up alike
       pub owner_steps : IsTileStep (pattern_at v own.table) owner.tile (board_for own b) (board_for own next) (cell_for v.side own from)
           (cell_for v.side own to)
       owner_steps =
           let looked = step_for v.side move b next tile from to step own in
-          record { move = move_for own move; moves = moves; from_is = looked.from_is; to_is = looked.to_is }
+          record { move = move_for own move; moves = owner_moves; from_is = looked.from_is; to_is = looked.to_is }
 
       -- its word tells of the sum
       pub owner_shifts : (rises : Bool) → ((d : ℕ) → IsLeastCost (table_pattern v.tables own) (board_for own b) d

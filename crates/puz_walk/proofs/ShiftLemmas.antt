@@ -27,12 +27,10 @@ use Rattle.puz_walk.proofs.TurnLemmas.{step_for}
 
 -- ---- what full tables say
 
--- of a table that isn't folded, what it says of a board is the least cost
-pub full_says : (part : ShownPart) (b : List ℕ) (d : ℕ) → part.is_folded ≡ false → PartSays part b (Finite d) → IsLeastCost part.tiles b d
+full_says : (part : ShownPart) (b : List ℕ) (d : ℕ) → part.is_folded ≡ false → PartSays part b (Finite d) → IsLeastCost part.tiles b d
 full_says part b d full says = subst (λ f. MatchBool f (FoldedTableSays part.tiles b (Finite d)) (TableSays part.tiles b (Finite d))) full says
 
--- the least cost of a board is what a table says of it that isn't folded
-pub says_full : (part : ShownPart) (b : List ℕ) (d : ℕ) → part.is_folded ≡ false → IsLeastCost part.tiles b d → PartSays part b (Finite d)
+says_full : (part : ShownPart) (b : List ℕ) (d : ℕ) → part.is_folded ≡ false → IsLeastCost part.tiles b d → PartSays part b (Finite d)
 says_full part b d full least = subst (λ f. MatchBool f (FoldedTableSays part.tiles b (Finite d)) (TableSays part.tiles b (Finite d))) (sym full) least
 
 -- ---- the tile of a member's own pattern

@@ -163,7 +163,7 @@ module _ (w : Inside) (kept : IsStoredSumWalk w) where
 
   -- where it was, with another set to ask first
   abbrev pub asked : ℕ → Tally
-  asked set = record { words = w.tally.words; owners = w.tally.owners; sums = w.tally.sums; first = set; entries = w.tally.entries }
+  asked set = record { owners = w.tally.owners; sums = w.tally.sums; first = set; entries = w.tally.entries }
 
   -- at its own position, a walk over sums is well stored with any other set of the bundle to ask first
   pub stored_again : (position : ShownSums) → position ≡ w.position → (set : ℕ) → set < length v.sets
@@ -176,7 +176,6 @@ module _ (w : Inside) (kept : IsStoredSumWalk w) where
         tally = record {
           sums_room = kept.tally.sums_room;
           entries_room = kept.tally.entries_room;
-          words = kept.tally.words;
           owners = kept.tally.owners;
           first = there;
           each = kept.tally.each;

@@ -1,12 +1,11 @@
 -- Tallies, and what a move does to them: only the member that has the tile says another thing.
 use Rattle.std.proofs.Common.{◌≡◌, ◌≢◌, ℕ, ◌+◌, ◌-◌, ◌*◌, ◌<◌, ◌≤◌, ◌⊎◌, Bool, true, false, cond, eqb, eq-eqb, ne_eqb, List, [], ◌∷◌, length, get_or}
-use Rattle.std.proofs.Common.{slice_index, slice_set, Option, Some, None, zero, suc, inl, inr, refl, sym, ◌∙◌, ap, subst, arith, get_or-set_same}
+use Rattle.std.proofs.Common.{slice_index, slice_set, Option, Some, None, zero, suc, inl, inr, sym, ◌∙◌, ap, subst, arith, get_or-set_same}
 use Rattle.std.proofs.Common.{get_or-set_other}
 use Rattle.std.specs.Prelude.{Any, slice_get}
 use Rattle.std.proofs.lemmas.Bool.{cases_eq, cond-true, cond-false}
-use Rattle.puz_board.specs.Boards.{IsBoardOf, at, blank, moved, slid}
+use Rattle.puz_board.specs.Boards.{IsBoardOf, at, blank, slid}
 use Rattle.puz_board.specs.Cells.{Adjacent}
-use Rattle.puz_board.specs.declared.moves.Move.{Move}
 use Rattle.puz_board.proofs.BoardLemmas.{IsBoardOf-slid}
 use Rattle.pat_place.specs.Patterns.{IsPattern}
 use Rattle.tab_rule.specs.declared.tables.Count.{Count}
@@ -26,11 +25,11 @@ use Rattle.tab_rule.proofs.StillLemmas.{at-back, slid-back, slid-near}
 use Rattle.set_sum.proofs.StillLemmas.{member_still}
 use Rattle.puz_walk.specs.Cuts.{GoesBeyond}
 use Rattle.puz_walk.specs.StoredWords.{AreOwnersOf, HasNoOwner, IsOwner, IsOwnerOf}
-use Rattle.puz_walk.specs.Tallies.{AreEntriesOf, AreTallied, IsLow, IsMoveOf, IsSlideOf, IsTold, entry_place}
+use Rattle.puz_walk.specs.Tallies.{AreEntriesOf, AreTallied, IsLow, IsSlideOf, IsTold, entry_place}
 use Rattle.puz_walk.specs.WordBundles.{pattern_at}
 use Rattle.puz_walk.specs.declared.owners.Owner.{Owner}
 use Rattle.puz_walk.specs.declared.tallies.Tally.{Tally}
-use Rattle.puz_walk.proofs.OwnerLemmas.{member_pattern, member_there, owner_moves, owner_takes, set_is}
+use Rattle.puz_walk.proofs.OwnerLemmas.{member_pattern, member_there, owner_takes, set_is}
 use Rattle.puz_walk.proofs.ShiftLemmas.{owner_or_not, sum_moves, sum_still}
 
 -- ---- places
@@ -65,8 +64,7 @@ other_entries v bundle set other low ne own few entries place entry place_is x a
 said_never : (entry : ℕ) → entry ≡ 255 → said_by entry ≡ Never
 said_never entry e = cond-true (eqb entry 255) Never (Finite entry) (eq-eqb entry 255 e)
 
--- an entry that isn't 255 says its number
-pub said_finite : (entry : ℕ) → entry ≢ 255 → said_by entry ≡ Finite entry
+said_finite : (entry : ℕ) → entry ≢ 255 → said_by entry ≡ Finite entry
 said_finite entry ne = cond-false (eqb entry 255) Never (Finite entry) (ne_eqb entry 255 ne)
 
 -- an entry is the number that its member says
@@ -211,17 +209,6 @@ module _ (v : ShownBundle) (b next : List ℕ) (tile : ℕ) (slides : IsSlideOf 
             (still m (member_pattern v bundle set low number m there) none _ (are number m there))
       ]
 
--- where a move leads from a board to the next one, its tile's owner looks up a move of its own tile
-pub own_moves : (v : ShownBundle) (b next : List ℕ) (tile : ℕ) → IsSlideOf v b next tile → (move : Move) → moved b move ≡ Some next
-    → (set : ℕ) (owner : Owner) → IsOwner v set tile owner → IsMoveOf v owner move b next
-own_moves v b next tile slides move leads set owner is = owner_moves v set move b next tile (blank b) (blank next) (record {
-  board = slides.board;
-  leads = leads;
-  tile_is = slides.tile_is;
-  from_is = refl;
-  to_is = refl;
-}) owner is
-
 -- the owner that is kept of a tile in a set
 pub owner_at : (v : ShownBundle) (owners : List (Option Owner)) → AreOwnersOf v owners → (set tile : ℕ) → set < length v.sets
     → tile < v.side * v.side → (number low : ℕ) → number ≡ set → low ≡ tile
@@ -262,10 +249,6 @@ module _ (v : ShownBundle) (bundle : IsBundle v) (b next : List ℕ) (tile : ℕ
     -- the entry before the move is a part of the sum
     pub entry_fits : slice_index tally.entries place ≤ sum
     entry_fits = (own_number v b next tile slides bundle set low owner is b (slice_index tally.entries place) sum old_says (kept.each set low).says).1
-
-    -- the entry before the move is a number
-    pub old_number : MemberSays v.tables owner.member b (Finite (slice_index tally.entries place))
-    old_number = (own_number v b next tile slides bundle set low owner is b (slice_index tally.entries place) sum old_says (kept.each set low).says).0
 
     module _ (entry : ℕ) (says : MemberSays v.tables owner.member next (said_by entry)) where
       sum_moved : entry ≢ 255 → BundleSays v set next (Finite (sum - slice_index tally.entries place + entry))

@@ -3,7 +3,6 @@ pub mod Walks
 pub mod Starts
 pub mod SumSteps
 pub mod WordBundles
-pub mod MixedBundles
 pub mod Outlines
 pub mod WordSteps
 -- How values are stored.
@@ -14,7 +13,6 @@ pub mod StoredWordWalks
 pub mod Seats
 pub mod StoredOutlines
 pub mod StoredWordBundles
-pub mod StoredMixedBundles
 pub mod Tallies
 pub mod Pasts
 -- What proofs alone need.

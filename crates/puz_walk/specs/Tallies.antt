@@ -5,15 +5,10 @@ use Rattle.puz_board.specs.Cells.{Adjacent}
 use Rattle.tab_rule.specs.declared.tables.Count.TheVariants.{Finite}
 use Rattle.set_sum.specs.Bundles.{ShownBundle, BundleSays, set_of}
 use Rattle.set_sum.specs.Known.{place_of, said_by}
-use Rattle.set_sum.specs.Members.{MemberSays, board_for}
+use Rattle.set_sum.specs.Members.{MemberSays}
 use Rattle.set_sum.specs.Owners.{has_tile}
 use Rattle.set_sum.specs.declared.members.Member.{Member}
-use Rattle.puz_board.specs.declared.moves.Move.{Move}
-use Rattle.edge_words.specs.Words.{IsTileMove}
-use Rattle.puz_walk.specs.MixedBundles.{AreOfTables}
-use Rattle.puz_walk.specs.StoredWords.{AreOwnersOf, move_for}
-use Rattle.puz_walk.specs.WordBundles.{pattern_at}
-use Rattle.puz_walk.specs.declared.owners.Owner.{Owner}
+use Rattle.puz_walk.specs.StoredWords.{AreOwnersOf}
 use Rattle.puz_walk.specs.declared.tallies.Tally.{Tally}
 
 -- ---- a board
@@ -32,10 +27,8 @@ pub record IsTallied (v : ShownBundle) (b sums entries : List ℕ) (set : ℕ) :
   pub says : BundleSays v set b (Finite (slice_index sums set))
   pub are : AreEntriesOf v b entries set
 
--- of each set it is kept, and the owner of each tile; the words are those of tables, and the set that is asked first is one of the
--- bundle's
+-- of each set it is kept, and the owner of each tile; the set that is asked first is one of the bundle's
 pub record AreTallied (v : ShownBundle) (b : List ℕ) (tally : Tally) : Type 0 where
-  pub words : AreOfTables v tally.words.now
   pub sums_room : length tally.sums ≡ 16
   pub entries_room : length tally.entries ≡ 512
   pub owners : AreOwnersOf v tally.owners
@@ -50,11 +43,6 @@ pub record IsSlideOf (v : ShownBundle) (b next : List ℕ) (tile : ℕ) : Type 0
   pub near : Adjacent v.side (blank b) (blank next)
   pub leads : slid b (blank next) ≡ next
   pub tile_is : tile ≡ at b (blank next)
-
--- where the move leads from board b to the next one, it moves the owner's own tile on the boards that the owner looks up
-abbrev pub IsMoveOf : ShownBundle → Owner → Move → List ℕ → List ℕ → Type 0
-IsMoveOf v owner move b next =
-    IsTileMove (pattern_at v owner.member.table) owner.tile (move_for owner.member move) (board_for owner.member b) (board_for owner.member next)
 
 -- a member of the set that has the tile says of the board what the entry says
 abbrev pub IsTold : ShownBundle → List ℕ → ℕ → ℕ → ℕ → Type 0

@@ -4,7 +4,6 @@
 #![tactic(auto)]
 
 mod cuts;
-mod mixed_bundles;
 mod outlines;
 mod owners;
 mod pasts;
@@ -19,7 +18,6 @@ mod word_bundles;
 mod word_spots;
 mod word_walks;
 
-pub use mixed_bundles::MixedBundle;
 pub use outlines::Outline;
 pub use set_walks::SetWalk;
 pub use starts::Start;

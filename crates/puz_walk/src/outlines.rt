@@ -22,7 +22,7 @@ use std::marker::Model;
 pub(crate) const MOST_WORDED: usize = 8;
 
 /// The members of a set.
-type Set = ArrayVec<Member, MOST_MEMBERS>;
+type SetOutline = ArrayVec<Member, MOST_MEMBERS>;
 
 /// A bundle of full tables without the bytes of the tables: the patterns and the sets, and what a walk over edge words asks at
 /// each move.
@@ -31,7 +31,7 @@ pub struct Outline {
     side: Side,
     /// The tiles of each table's pattern, as a mask.
     masks: ArrayVec<u32, MOST_WORDED>,
-    sets: ArrayVec<Set, MOST_SETS>,
+    sets: ArrayVec<SetOutline, MOST_SETS>,
     /// For each set, tile and move what is read and changed when the move moves the tile.
     seats: [Seat; MOST_SEATS],
     /// For each cell and move the cell to which it leads.
@@ -157,7 +157,7 @@ fn mask_of(part: &Part<'_>) -> Option<u32>
 }
 
 /// The members of all sets of a bundle.
-fn sets_of(bundle: &Bundle<'_>) -> ArrayVec<Set, MOST_SETS>
+fn sets_of(bundle: &Bundle<'_>) -> ArrayVec<SetOutline, MOST_SETS>
     ensures { map (λ set. set.items) result.items ≡ bundle.now.sets }
 {
     let mut sets = ArrayVec::new();
@@ -168,7 +168,7 @@ fn sets_of(bundle: &Bundle<'_>) -> ArrayVec<Set, MOST_SETS>
 }
 
 /// The members of a set, in a list of their own.
-fn copied(members: &[Member]) -> Set
+fn copied(members: &[Member]) -> SetOutline
     requires { length members.now ≤ most_members }
     ensures { result.items ≡ members.now }
 {

@@ -3,29 +3,25 @@
 ghost use Rattle.std.specs.Prelude.{◌≡◌, IfNone, IfSome};
 ghost use Rattle.puz_board.specs.Boards.{blank, side_of};
 ghost use Rattle.puz_board.specs.Cells.{step_of};
-ghost use Rattle.puz_walk.specs.MixedBundles.{AreOfTables};
 ghost use Rattle.puz_walk.specs.Walks.{IsClosed};
 
 use crate::cuts::margin_of;
-use crate::mixed_bundles::MixedBundle;
 use crate::tallies::{Tally, Told, exchange, judge, tally_of};
 use crate::walks::Walk;
 use crate::ways::{Ways, all_ways, way_place};
-use crate::word_spots::Slide;
-use edge_words::Words;
 use puz_board::{Board, Move};
 use set_sum::{Bundle, MOST_SETS, Position};
 use std::marker::Model;
 
 /// A board that is moved in place, and the bound below which solutions of it are searched for. The sums of the sets of a bundle
 /// cut boards off (Korf and Felner 2002). Of each set only the member is looked up whose pattern has the tile that moves: the
-/// others say what they said before. Where its table has edge words, its word tells what it says.
+/// others say what they said before.
 #[derive(Drop)]
 pub struct SumWalk<'a> {
     position: Position<'a>,
     /// For each cell and move the cell to which it leads.
     ways: Ways,
-    tally: Tally<'a>,
+    tally: Tally,
     bound: u8,
     /// How far each sum must be below the bound.
     margin: u8,
@@ -58,39 +54,13 @@ impl<'a> SumWalk<'a> {
             ≡ record { bundle = bundle.now; board = board.now; bound = bound }) }
         ensures none { IfNone result (IsClosed bundle.now board.now bound) }
     {
-        SumWalk::with_words(bundle, &[], board, bound)
-    }
-
-    /// The same over a bundle of some of whose tables there are edge words: what these tell isn't looked up in the tables.
-    pub fn over(mixed: &'a MixedBundle<'a>, board: &Board, bound: u8) -> Option<SumWalk<'a>>
-        requires { side_of board.now ≡ mixed.now.side }
-        ensures some { IfSome result (λ walk. walk
-            ≡ record { bundle = mixed.now; board = board.now; bound = bound }) }
-        ensures none { IfNone result (IsClosed mixed.now board.now bound) }
-    {
-        SumWalk::with_words(mixed.bundle(), mixed.words(), board, bound)
-    }
-
-    /// The same over a bundle and the words of some of its tables.
-    fn with_words(
-        bundle: &'a Bundle<'a>,
-        words: &'a [Option<Words>],
-        board: &Board,
-        bound: u8,
-    ) -> Option<SumWalk<'a>>
-        requires side { side_of board.now ≡ bundle.now.side }
-        requires words { AreOfTables bundle.now words.now }
-        ensures some { IfSome result (λ walk. walk
-            ≡ record { bundle = bundle.now; board = board.now; bound = bound }) }
-        ensures none { IfNone result (IsClosed bundle.now board.now bound) }
-    {
         let (side, _sets) = (board.side(), bundle.sets());
         let margin = margin_of(bound, board.blank_parity());
         if bound < margin {
             return None;
         }
         let position = Position::new(bundle, board);
-        let tally = tally_of(&position, words, board, bound - margin)?;
+        let tally = tally_of(&position, board, bound - margin)?;
         Some(SumWalk {
             position,
             ways: all_ways(side),
@@ -134,9 +104,8 @@ impl<'a> Walk for SumWalk<'a> {
         let from = self.position.blank();
         let to = self.after(mv)?;
         let tile = self.position.slide(to);
-        let slide = Slide { mv, tile, to };
         let mut told = [0; MOST_SETS];
-        if let Some(set) = judge(&self.position, &self.tally, slide, limit, &mut told) {
+        if let Some(set) = judge(&self.position, &self.tally, tile, limit, &mut told) {
             // It often cuts off the next board too.
             self.tally.first = set;
             self.position.slide(from);

@@ -1,20 +1,16 @@
 //! For each set its sum on a board, and what its members say of the board.
 
-ghost use Rattle.std.specs.Prelude.{◌≡◌, ℕ, ◌+◌, ◌^◌, ◌<◌, IfNone, IfSome, List, Some, length, slice_get};
-ghost use Rattle.puz_board.specs.Boards.{moved, side_of};
+ghost use Rattle.std.specs.Prelude.{◌≡◌, ℕ, ◌+◌, ◌^◌, ◌<◌, IfNone, IfSome, List, length};
+ghost use Rattle.puz_board.specs.Boards.{side_of};
 ghost use Rattle.set_sum.specs.Known.{place_of, said_by};
 ghost use Rattle.set_sum.specs.Members.{MemberSays};
 ghost use Rattle.set_sum.specs.declared.members.Member.{Member};
-ghost use Rattle.tab_rule.specs.declared.tables.Count.TheVariants.{Finite};
 ghost use Rattle.puz_walk.specs.Cuts.{AreBelow, GoesBeyond};
-ghost use Rattle.puz_walk.specs.MixedBundles.{AreOfTables, AreWordsOf};
-ghost use Rattle.puz_walk.specs.Tallies.{AreEntriesOf, AreLow, AreTallied, AreTold, IsLow, IsMoveOf, IsSlideOf, IsTold, entry_place};
+ghost use Rattle.puz_walk.specs.Tallies.{AreEntriesOf, AreLow, AreTallied, AreTold, IsLow, IsSlideOf, IsTold, entry_place};
 
 use crate::cuts::sums_of;
-use crate::owners::{MOST_OWNERS, Owner, all_owners, move_for};
-use crate::word_spots::Slide;
-use edge_words::Words;
-use puz_board::{Board, Move};
+use crate::owners::{MOST_OWNERS, Owner, all_owners};
+use puz_board::Board;
 use set_sum::{Bundle, MOST_SETS, Member, Position};
 
 /// How many entries there are: 32 for each of 16 sets.
@@ -22,9 +18,7 @@ pub(crate) const MOST_ENTRIES: usize = 512;
 
 /// For each set its sum on a board, and what its members say of the board.
 #[derive(Drop)]
-pub(crate) struct Tally<'a> {
-    /// For each table its words, where it has some. The list may end before the tables do.
-    pub(crate) words: &'a [Option<Words>],
+pub(crate) struct Tally {
     /// For each set and tile the member of the set whose pattern has the tile.
     pub(crate) owners: [Option<Owner>; MOST_OWNERS],
     pub(crate) sums: [u8; MOST_SETS],
@@ -32,17 +26,6 @@ pub(crate) struct Tally<'a> {
     pub(crate) first: u8,
     /// What each member of each set says, as an entry of its table says it.
     pub(crate) entries: [u8; MOST_ENTRIES],
-}
-
-impl Tally<'_> {
-    /// The words of a member's table, where it has some.
-    #[inline]
-    fn words_of(&self, member: Member) -> Option<&Words>
-        ensures { IfSome result
-            (λ words. slice_get self.now.words.now member.table ≡ Some (Some words.now)) }
-    {
-        self.words.get(usize::from(member.table))?.as_ref()
-    }
 }
 
 /// For each set the entry of its owner of a tile. Where it has none, 0.
@@ -58,13 +41,7 @@ fn entry_place(set: u8, member: Member) -> usize
 }
 
 /// The tally of a board where no set has a sum above a limit.
-pub(crate) fn tally_of<'a>(
-    position: &Position<'_>,
-    words: &'a [Option<Words>],
-    board: &Board,
-    most: u8,
-) -> Option<Tally<'a>>
-    requires words { AreOfTables position.now.bundle words.now }
+pub(crate) fn tally_of(position: &Position<'_>, board: &Board, most: u8) -> Option<Tally>
     requires board { board.now ≡ position.now.board }
     requires side { side_of board.now ≡ position.now.bundle.side }
     ensures some { IfSome result (λ tally.
@@ -78,7 +55,6 @@ pub(crate) fn tally_of<'a>(
     let _sets = bundle.sets();
     let sums = sums_of(bundle, board, most)?;
     Some(Tally {
-        words,
         owners: all_owners(bundle),
         sums,
         first: 0,
@@ -121,18 +97,17 @@ fn entry_at(position: &Position<'_>, place: u8) -> u8
 #[inline]
 pub(crate) fn judge(
     position: &Position<'_>,
-    tally: &Tally<'_>,
-    slide: Slide,
+    tally: &Tally,
+    tile: u8,
     limit: u8,
     told: &mut Told,
 ) -> Option<u8>
     requires room { length told.old ≡ 16 }
     requires limit { limit < 255 }
-    requires moved { (b : List ℕ) × IsSlideOf position.now.bundle b position.now.board slide.tile
-        × (moved b slide.mv ≡ Some position.now.board)
+    requires moved { (b : List ℕ) × IsSlideOf position.now.bundle b position.now.board tile
         × AreTallied position.now.bundle b tally.now }
     ensures told { IfNone result
-        (AreTold position.now.bundle position.now.board slide.tile told.new) }
+        (AreTold position.now.bundle position.now.board tile told.new) }
     ensures low { IfNone result
         (AreLow position.now.bundle position.now.board limit) }
     ensures cut { IfSome result (λ set.
@@ -141,13 +116,13 @@ pub(crate) fn judge(
 {
     let sets = position.bundle().sets();
     let first = tally.first;
-    let Some(entry) = judged(position, tally, slide, limit, first) else {
+    let Some(entry) = judged(position, tally, tile, limit, first) else {
         return Some(first);
     };
     told[usize::from(first)] = entry;
     for set in 0..sets {
         if set != first {
-            let Some(entry) = judged(position, tally, slide, limit, set) else {
+            let Some(entry) = judged(position, tally, tile, limit, set) else {
                 return Some(set);
             };
             told[usize::from(set)] = entry;
@@ -158,20 +133,13 @@ pub(crate) fn judge(
 
 /// What the owner of a tile that has moved says of the board, where the sum of the set is below a limit now.
 #[inline]
-fn judged(
-    position: &Position<'_>,
-    tally: &Tally<'_>,
-    slide: Slide,
-    limit: u8,
-    set: u8,
-) -> Option<u8>
+fn judged(position: &Position<'_>, tally: &Tally, tile: u8, limit: u8, set: u8) -> Option<u8>
     requires set { set < length position.now.bundle.sets }
     requires limit { limit < 255 }
-    requires moved { (b : List ℕ) × IsSlideOf position.now.bundle b position.now.board slide.tile
-        × (moved b slide.mv ≡ Some position.now.board)
+    requires moved { (b : List ℕ) × IsSlideOf position.now.bundle b position.now.board tile
         × AreTallied position.now.bundle b tally.now }
     ensures told { IfSome result
-        (IsTold position.now.bundle position.now.board slide.tile set) }
+        (IsTold position.now.bundle position.now.board tile set) }
     ensures low { IfSome result (λ entry.
         IsLow position.now.bundle position.now.board limit set) }
     ensures cut { IfNone result
@@ -179,15 +147,11 @@ fn judged(
 {
     let _sets = position.bundle().sets();
     let sum = tally.sums[usize::from(set)];
-    let Some(owner) = tally.owners[32 * usize::from(set) + usize::from(slide.tile)] else {
+    let Some(owner) = tally.owners[32 * usize::from(set) + usize::from(tile)] else {
         return if sum < limit { Some(0) } else { None };
     };
-    let before = tally.entries[entry_place(set, owner.member)];
-    let others = sum - before;
-    let entry = match tally.words_of(owner.member) {
-        Some(words) => entry_by(words, position, owner, slide.mv, before),
-        None => position.entry(owner.member),
-    };
+    let others = sum - tally.entries[entry_place(set, owner.member)];
+    let entry = position.entry(owner.member);
     if u16::from(others) + u16::from(entry) < u16::from(limit) {
         Some(entry)
     } else {
@@ -195,26 +159,9 @@ fn judged(
     }
 }
 
-/// What the owner of a tile that has moved says of the board. It is told by the words of its table, and by what it said before.
-fn entry_by(words: &Words, position: &Position<'_>, owner: Owner, mv: Move, before: u8) -> u8
-    requires moved { (b : List ℕ)
-        × IsMoveOf position.now.bundle owner mv b position.now.board
-        × MemberSays position.now.bundle.tables owner.member b (Finite before) }
-    requires words { AreWordsOf position.now.bundle owner.member.table words.now }
-    ensures { MemberSays position.now.bundle.tables owner.member position.now.board
-        (said_by result) }
-{
-    let found = position.cells_for(owner.member);
-    if words.rose(found, owner.tile, move_for(owner.member, mv)) {
-        before + 1
-    } else {
-        before - 1
-    }
-}
-
 /// Takes what the owners of a tile that has moved say now, and hands back what they said before.
 #[inline]
-pub(crate) fn exchange(bundle: &Bundle<'_>, tally: &mut Tally<'_>, tile: u8, told: &mut Told)
+pub(crate) fn exchange(bundle: &Bundle<'_>, tally: &mut Tally, tile: u8, told: &mut Told)
     requires { (b : List ℕ) × (next : List ℕ) × IsSlideOf bundle.now b next tile
         × AreTallied bundle.now b tally.old × AreTold bundle.now next tile told.old
         × AreLow bundle.now next (2 ^ 8) }

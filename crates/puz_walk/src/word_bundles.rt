@@ -159,7 +159,7 @@ fn have_words(outline: &Outline, words: &[Words]) -> bool
 }
 
 /// Whether a pattern is the one of this side whose tiles are the numbers of a mask.
-pub(crate) fn is_of(pattern: &Pattern, side: Side, mask: u32) -> bool
+fn is_of(pattern: &Pattern, side: Side, mask: u32) -> bool
     ensures { IsTrue result
         ↔ (pattern.now ≡ record { side = side; tiles = numbers_of mask }) }
 {

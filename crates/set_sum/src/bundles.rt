@@ -40,8 +40,8 @@ pub(crate) type Set = ArrayVec<Member, MOST_MEMBERS>;
 
 /// Checked tables of one side, full or folded, and sets of disjoint members: no tile is in the patterns of two members of a set.
 ///
-/// A move moves one tile, so the counts that the members of a set tell of a board may be added, and the sum is at most the
-/// number of moves of any solution (Korf and Felner 2002).
+/// A move moves one tile, so the counts that the members of a set tell of a board may be added. The sum is an additive and
+/// admissible heuristic: at most the number of moves of any solution (Korf and Felner 2002).
 #[derive(Drop)]
 pub struct Bundle<'a> {
     side: Side,

@@ -1,4 +1,5 @@
-//! Sums of disjoint pattern databases (Korf and Felner 2002): lower bounds of the solutions of a board.
+//! Sums of disjoint additive pattern databases (Korf and Felner 2002): an admissible heuristic, as each sum is a lower bound of
+//! the solutions of a board.
 //!
 //! Nothing here takes memory.
 #![tactic(auto)]

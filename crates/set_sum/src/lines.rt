@@ -85,14 +85,14 @@ fn split_member(text: &[u8], last: Option<Member>) -> Option<Front<'_>>
 
 /// A line of a set text as it is read, and the text behind it.
 #[derive(Drop)]
-struct Line<'a> {
+struct SetLine<'a> {
     /// The set, where all its tables are there.
     set: Option<Set>,
     rest: &'a [u8],
 }
 
 /// The line of a set at the front of a text, where there are so many tables.
-fn split_line(text: &[u8], tables: usize) -> Option<Line<'_>>
+fn split_line(text: &[u8], tables: usize) -> Option<SetLine<'_>>
     requires { tables ≤ most_tables }
     ensures some { IfSome result (λ line.
         IsReadLine tables text.now (option_map (λ set. set.items) line.set) line.rest.now) }
@@ -116,7 +116,7 @@ fn split_line(text: &[u8], tables: usize) -> Option<Line<'_>>
         }
         if front.is_last {
             let set = if is_there { Some(members) } else { None };
-            return Some(Line {
+            return Some(SetLine {
                 set,
                 rest: front.rest,
             });

@@ -5,10 +5,9 @@ ghost use Rattle.puz_board.specs.Boards.{IsBoardOf, IsGoal, at, blank, side_of, 
 ghost use Rattle.puz_board.specs.Cells.{Adjacent, step_of};
 ghost use Rattle.puz_board.specs.Parity.{blank_parity};
 ghost use Rattle.tab_file.specs.EntryBytes.{greatest_count};
-ghost use Rattle.tab_rule.specs.Counts.{AreCellsOf};
 ghost use Rattle.tab_rule.specs.declared.tables.Count.TheVariants.{Finite};
 ghost use Rattle.set_sum.specs.Known.{said_by};
-ghost use Rattle.set_sum.specs.Members.{MemberSays, board_for};
+ghost use Rattle.set_sum.specs.Members.{MemberSays};
 
 use crate::bundles::{Bundle, MOST_CELLS};
 use crate::cells::{cell_after, has_numbers, is_in_order, numbers_of, parity_of};
@@ -135,19 +134,6 @@ impl<'a> Position<'a> {
         tile
     }
 
-    /// The cell of each number on the board that a member looks up: this one, or this one transposed.
-    #[inline]
-    pub fn cells_for(&self, member: Member) -> &[u8; MOST_CELLS]
-        ensures board { IsBoardOf self.now.bundle.side (board_for member self.now.board) }
-        ensures cells { AreCellsOf result.now (board_for member self.now.board) }
-    {
-        if member.is_transposed {
-            &self.transposed
-        } else {
-            &self.cells
-        }
-    }
-
     /// What a member says of the board, as an entry of its table says it: 255 for never, and else the number.
     #[inline]
     pub fn entry(&self, member: Member) -> u8
@@ -164,7 +150,11 @@ impl<'a> Position<'a> {
         ensures says { MemberSays self.now.bundle.tables member self.now.board result }
         ensures few { (d : ℕ) → result ≡ Finite d → d ≤ greatest_count }
     {
-        let cells = self.cells_for(member);
+        let cells = if member.is_transposed {
+            &self.transposed
+        } else {
+            &self.cells
+        };
         self.bundle.part(member.table).look_in(cells)
     }
 }

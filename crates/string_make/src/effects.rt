@@ -1,6 +1,6 @@
 //! The effects of strings.
 
-use crate::grids::{MIDDLE, Slide, WIDTH};
+use crate::grids::{MIDDLE, Shift, WIDTH};
 
 /// What a string does, told by a sum over the numbers that stand in the cells after it. Two effects may have one sum by chance;
 /// a draft that is wrong for it is refused.
@@ -33,7 +33,7 @@ impl Effect {
 
     /// That of a string with one more move. The blank has the number of its first cell.
     #[inline]
-    pub(crate) fn after(&self, slide: Slide) -> Effect {
+    pub(crate) fn after(&self, slide: Shift) -> Effect {
         let gone = share(MIDDLE, slide.from).wrapping_add(share(slide.tile, slide.to));
         let come = share(MIDDLE, slide.to).wrapping_add(share(slide.tile, slide.from));
         Effect {

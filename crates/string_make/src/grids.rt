@@ -22,7 +22,7 @@ pub(crate) struct Grid {
 
 /// A slide of the blank to a cell beside its own.
 #[derive(Clone, Copy)]
-pub(crate) struct Slide {
+pub(crate) struct Shift {
     /// Where the blank was.
     pub(crate) from: u16,
     /// Where it is now.
@@ -46,9 +46,9 @@ impl Grid {
 
     /// The slide that a move would make.
     #[inline]
-    pub(crate) fn slide(&self, mv: Move) -> Slide {
+    pub(crate) fn slide(&self, mv: Move) -> Shift {
         let to = beside(self.blank, mv);
-        Slide {
+        Shift {
             from: self.blank,
             to,
             tile: self.numbers[place(to)],

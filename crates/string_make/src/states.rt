@@ -1,7 +1,7 @@
 //! The states of an automaton that finds strings (Aho and Corasick 1975): the proper beginnings of the forbidden strings.
 
 use crate::strings::{Child, EMPTY, LONGEST, Strings, number_of};
-use move_strings::{Step, rank_of_move};
+use move_strings::{Transition, rank_of_move};
 use puz_board::{MOVES, Move};
 use std::alloc::{AllocError, Global};
 
@@ -48,7 +48,11 @@ impl States {
     }
 
     /// The steps of each state.
-    pub(crate) fn steps(&self, alloc: Global, strings: &Strings) -> Result<Vec<Step>, AllocError> {
+    pub(crate) fn steps(
+        &self,
+        alloc: Global,
+        strings: &Strings,
+    ) -> Result<Vec<Transition>, AllocError> {
         let mut steps = Vec::new(alloc);
         for string in self.strings.as_slice() {
             self.push_steps(strings, *string, &mut steps)?;
@@ -61,14 +65,14 @@ impl States {
         &self,
         strings: &Strings,
         string: u32,
-        steps: &mut Vec<Step>,
+        steps: &mut Vec<Transition>,
     ) -> Result<(), AllocError> {
         let failure = self.failure(strings, string);
         for mv in MOVES.iter() {
             let step = match strings.child(string, *mv) {
-                Child::Forbidden(number) => Step::LeftOut(number),
+                Child::Forbidden(number) => Transition::LeftOut(number),
                 Child::Kept(child) => match self.state(child) {
-                    Some(state) => Step::To(state),
+                    Some(state) => Transition::To(state),
                     None => step_of(steps.as_slice(), failure, *mv),
                 },
                 Child::LeftOut => step_of(steps.as_slice(), failure, *mv),
@@ -100,14 +104,14 @@ impl States {
 }
 
 /// The step of a move from a state with known steps; the first state where there is no state.
-fn step_of(steps: &[Step], state: Option<u32>, mv: Move) -> Step {
+fn step_of(steps: &[Transition], state: Option<u32>, mv: Move) -> Transition {
     let Some(state) = state else {
-        return Step::To(0);
+        return Transition::To(0);
     };
     let place = (state as usize)
         .saturating_mul(4)
         .saturating_add(usize::from(rank_of_move(mv)));
-    steps.get(place).copied().unwrap_or(Step::To(0))
+    steps.get(place).copied().unwrap_or(Transition::To(0))
 }
 
 /// Whether each string is a proper beginning of a forbidden one. The empty one is told to be.

@@ -25,7 +25,7 @@ use work_run::{Gate, Workers, run_jobs_by};
 /// Below so many entries a table is checked sooner than its rows are made.
 const FEW_ENTRIES: usize = 1 << 16;
 
-/// Checks the bytes of a table file, block by block, by so many workers at once.
+/// Checks the bytes of an additive pattern database (Korf and Felner 2002), block by block, by so many workers at once.
 ///
 /// The caller's thread is one of them. Each passes the gate once before each block that it checks. The blocks of a large
 /// table are checked run by run; where the memory for that is refused, by columns, which is slower.

@@ -1,4 +1,4 @@
-//! Table files of pattern databases: a header that names the pattern, and the entries behind it.
+//! Table files of additive pattern databases (Korf and Felner 2002): a header that names the pattern, and the entries behind it.
 #![tactic(auto)]
 
 mod counts;

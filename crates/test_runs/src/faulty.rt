@@ -2,24 +2,20 @@
 
 use crate::runs::{owned, ran};
 use crate::same::{holds_for, same, same_for};
+use crate::tasks::{FILES, TASKS, Task};
 use byte_io::memory::MemShelf;
 use byte_io::watched::Watched;
 use pdb_program::run;
-use std::alloc::Global;
+use std::alloc::{AllocError, Global};
 use std::io;
 use std::process::Abort;
 use std::sync::Wait;
 use std::test::Fail;
 use std::thread::Threads;
-use test_samples::files::{TILE_1, TILES_123};
-use test_samples::logs::LEAF;
-use test_streams::{Failing, SampleReader, SampleWriter};
+use test_samples::{EndlessReader, Failing, SampleReader, SampleWriter};
 use work_run::OpenGate;
 
 const SOLVED: &[u8] = b"3 2 1 0 ; ULDRUL\n";
-
-const EXACT: &[u8] =
-    b"sha256 26b7b90b4dfe1e0850395df95e9bceb8d79215ca38dc4d14ffced6029e452e58\nexact side 2 mask 2 entries 8 unreachable 0 deepest 2\n";
 
 /// The read of this number fails: that is told alone, and noted.
 fn expect_read_fault<H: Threads + Wait + Sync + Abort>(
@@ -57,6 +53,16 @@ fn bytes_read_one_by_one_are_read_whole(rt: HostRuntime) -> Result<(), Fail> {
     Ok(())
 }
 
+#[test]
+fn a_reader_without_end_is_left_after_one_byte_too_many(rt: HostRuntime) -> Result<(), Fail> {
+    let mut shelf = MemShelf::of(rt.alloc(), &[])?;
+    let mut reader = EndlessReader::new(1);
+    let ended = ran(&rt, rt.alloc(), &["replay"], &mut shelf, &mut reader)?;
+    ended.expect(b"fault size -\n", 2)?;
+    holds_for(&rt, reader.calls() <= 65_538, &("reads", reader.calls()));
+    Ok(())
+}
+
 const BY_ERROR: Failing = Failing::ByError(io::ErrorKind::Other);
 
 /// A writer that takes one byte at a time, and fails from one of its writes on.
@@ -66,19 +72,6 @@ fn failing_from(alloc: Global, call: usize, how: Failing) -> SampleWriter {
         .byte_by_byte_from(0)
 }
 
-/// The log that `solve` makes: `LEAF` in version 2.
-const MADE: [u8; 20] = *b"PDBL\x02\x02\0\0\0\x01\x03\x02\x01\0\x06\0\0\0\x01\x01";
-
-/// The names of the files here and their bytes.
-const FILES: [(&str, &[u8]); 6] = [
-    ("t", &TILE_1),
-    ("f123", &TILES_123),
-    ("board", b"3 2 1 0"),
-    ("puzzle", b"3 2 1 0 ; ULDRUL"),
-    ("sets", b"set 0\n"),
-    ("log", &LEAF),
-];
-
 /// What a run left: its status, whether a write failed, and the files.
 #[derive(Drop)]
 struct Left {
@@ -87,77 +80,49 @@ struct Left {
     files: MemShelf,
 }
 
-/// A run on a shelf with these files, over this output.
+/// A run over these outputs.
+fn ran_beside<H: Threads + Wait + Sync>(
+    rt: &H,
+    alloc: Global,
+    words: &[&str],
+    out: &mut SampleWriter,
+    err: &mut SampleWriter,
+) -> Result<Left, AllocError> {
+    let mut files = MemShelf::of(alloc, &FILES)?;
+    let mut out = Watched::new(out);
+    let mut reader = b"".as_slice();
+    let words = owned(alloc, words)?;
+    let gate = &OpenGate;
+    let status = run(
+        rt,
+        alloc,
+        words,
+        &mut files,
+        &mut reader,
+        &mut out,
+        err,
+        gate,
+    );
+    Ok(Left {
+        status,
+        write_failed: out.has_failed(),
+        files,
+    })
+}
+
+/// The same, where nothing is written on the errors.
 fn ran_over<H: Threads + Wait + Sync>(
     rt: &H,
     alloc: Global,
     words: &[&str],
     out: &mut SampleWriter,
 ) -> Result<Left, Fail> {
-    let mut shelf = MemShelf::of(alloc, &FILES)?;
-    let mut out = Watched::new(out);
-    let mut reader = SOLVED;
-    let mut err = Vec::new(alloc);
-    let words = owned(alloc, words)?;
-    let gate = OpenGate;
-    let status = run(
-        rt,
-        alloc,
-        words,
-        &mut shelf,
-        &mut reader,
-        &mut out,
-        &mut err,
-        &gate,
-    );
-    if err.is_empty() {
-        Ok(Left {
-            status,
-            write_failed: out.has_failed(),
-            files: shelf,
-        })
+    let mut err = SampleWriter::new(alloc);
+    let left = ran_beside(rt, alloc, words, out, &mut err)?;
+    if err.taken().is_empty() {
+        Ok(left)
     } else {
         Err(Fail::new("written on the errors"))
-    }
-}
-
-/// Words, the lines of their run, and its status.
-type Case<'a> = (&'a [&'a str], &'a [u8], u8);
-
-const CASES: [Case<'static>; 9] = [
-    (&[], b"solution 6\n", 0),
-    (&["replay", "board"], b"refused P1\n", 1),
-    (&["table", "t"], EXACT, 0),
-    (&["table", "no table"], b"fault read no table\n", 2),
-    (
-        &["bound", "board", "sets", "log", "f123"],
-        b"sha256 5c515b94b4098a8408358078f3f9b8b3e46255c04334fedd62c8e67da63d237b\nsha256 637ed7557c031455a39a826a90aa07c9b77930b8072f58f7a02c0af00f445342\nbound 6\n",
-        0,
-    ),
-    (
-        &["optimal", "puzzle", "sets", "log", "f123"],
-        b"sha256 5c515b94b4098a8408358078f3f9b8b3e46255c04334fedd62c8e67da63d237b\nsha256 637ed7557c031455a39a826a90aa07c9b77930b8072f58f7a02c0af00f445342\noptimal 6\n",
-        0,
-    ),
-    (&["make-table", "2", "2", "made"], EXACT, 0),
-    (
-        &["solve", "board", "sets", "made", "f123"],
-        b"sha256 5c515b94b4098a8408358078f3f9b8b3e46255c04334fedd62c8e67da63d237b\nsha256 c56a7d0f199c79db7512ab483017213c97652395779bd850ff2e39d9b6b0b357\nmoves ULDRUL\noptimal 6\n",
-        0,
-    ),
-    (
-        &["solve", "board", "sets", "made", "t", "--budget", "1"],
-        b"sha256 26b7b90b4dfe1e0850395df95e9bceb8d79215ca38dc4d14ffced6029e452e58\nrefused K1\n",
-        1,
-    ),
-];
-
-/// What a run that ends with this status has made under `made`.
-fn made_by(words: &[&str], status: u8) -> Option<&'static [u8]> {
-    match words {
-        ["make-table", ..] if status == 0 => Some(&TILE_1),
-        ["solve", ..] if status == 0 => Some(&MADE),
-        _ => None,
     }
 }
 
@@ -165,71 +130,76 @@ fn made_by(words: &[&str], status: u8) -> Option<&'static [u8]> {
 fn expect_write_fault<H: Threads + Wait + Sync + Abort>(
     rt: &H,
     alloc: Global,
-    case: Case<'_>,
+    task: &Task<'_>,
     fails_from: usize,
     how: Failing,
 ) -> Result<(), Fail> {
-    let (words, lines, status) = case;
+    let lines = task.lines(alloc)?;
     let mut out = failing_from(alloc, fails_from, how);
-    let left = ran_over(rt, alloc, words, &mut out)?;
-    let front = lines.get(..fails_from).unwrap_or(&[]);
+    let left = ran_over(rt, alloc, task.words, &mut out)?;
+    let front = lines.as_bytes().get(..fails_from).unwrap_or(&[]);
     let is_front = left.status == 2 && out.taken() == front;
     holds_for(rt, is_front, &("write", fails_from));
     holds_for(rt, left.write_failed, &("no fault, write", fails_from));
     same(rt, &out.calls(), &(fails_from as u64).saturating_add(1));
     // What was made stays, since it is kept before any line is written.
-    let is_kept = left.files.get("made") == made_by(words, status);
-    holds_for(rt, is_kept, &words);
+    let is_kept = left.files.get(task.out.unwrap_or("")) == task.made;
+    holds_for(rt, is_kept, &task.words);
     Ok(())
 }
 
-/// Each write of a run's lines fails in this way, one after the other.
+/// Whether the write of the byte at this place is tried: at the beginning and the end of each line, and at some places between.
+fn is_tried(lines: &[u8], place: usize) -> bool {
+    let begins = place == 0 || lines.get(place - 1) == Some(&b'\n');
+    begins || lines.get(place) == Some(&b'\n') || place % 16 == 0
+}
+
+/// Writes of a run's lines fail in this way, one after the other.
 fn expect_write_faults<H: Threads + Wait + Sync + Abort>(
     rt: &H,
     alloc: Global,
-    case: Case<'_>,
+    task: &Task<'_>,
     how: Failing,
 ) -> Result<(), Fail> {
-    let (_, lines, _) = case;
+    let lines = task.lines(alloc)?;
     for fails_from in 0..lines.len() {
-        expect_write_fault(rt, alloc, case, fails_from, how)?;
+        if is_tried(lines.as_bytes(), fails_from) {
+            expect_write_fault(rt, alloc, task, fails_from, how)?;
+        }
     }
     Ok(())
 }
 
 #[test]
 fn a_write_that_fails_leaves_a_front_of_the_lines(rt: HostRuntime) -> Result<(), Fail> {
-    for case in CASES {
+    for task in &TASKS {
         for how in [BY_ERROR, Failing::ByTakingNothing] {
-            expect_write_faults(&rt, rt.alloc(), case, how)?;
+            expect_write_faults(&rt, rt.alloc(), task, how)?;
         }
     }
     Ok(())
 }
 
-/// A run over this output says its lines, by so many writes.
+/// A run over an output that takes a byte at a time says its lines, by as many writes.
 fn expect_taken<H: Threads + Wait + Sync + Abort>(
     rt: &H,
     alloc: Global,
-    case: Case<'_>,
-    mut out: SampleWriter,
-    writes: u64,
+    task: &Task<'_>,
 ) -> Result<(), Fail> {
-    let (words, lines, want) = case;
-    let left = ran_over(rt, alloc, words, &mut out)?;
-    same_for(rt, &left.status, &want, &words);
-    holds_for(rt, out.taken() == lines, &("status", left.status));
-    holds_for(rt, !left.write_failed, &("fault, status", left.status));
-    same_for(rt, &out.calls(), &writes, &words);
+    let lines = task.lines(alloc)?;
+    let mut out = SampleWriter::new(alloc).byte_by_byte_from(0);
+    let left = ran_over(rt, alloc, task.words, &mut out)?;
+    same_for(rt, &left.status, &task.status, &task.words);
+    same_for(rt, &out.taken(), &lines.as_bytes(), &task.words);
+    holds_for(rt, !left.write_failed, &task.words);
+    same_for(rt, &out.calls(), &(lines.len() as u64), &task.words);
     Ok(())
 }
 
 #[test]
 fn lines_that_are_taken_byte_by_byte_are_the_same(rt: HostRuntime) -> Result<(), Fail> {
-    for case in CASES {
-        let out = SampleWriter::new(rt.alloc()).byte_by_byte_from(0);
-        let (_, lines, _) = case;
-        expect_taken(&rt, rt.alloc(), case, out, lines.len() as u64)?;
+    for task in &TASKS {
+        expect_taken(&rt, rt.alloc(), task)?;
     }
     Ok(())
 }
@@ -265,19 +235,34 @@ fn help_that_cannot_be_written_is_a_fault(rt: HostRuntime) -> Result<(), Fail> {
     Ok(())
 }
 
-/// The whole help is one write.
-fn expect_help_whole<H: Threads + Wait + Sync + Abort>(rt: &H, alloc: Global) -> Result<(), Fail> {
-    let mut help = SampleWriter::new(alloc);
-    let left = ran_over(rt, alloc, &["--help"], &mut help)?;
-    let is_help = left.status == 0 && help.calls() == 1 && help.taken().ends_with(b"\n");
-    holds_for(rt, is_help, &"help");
+/// What `parts` tells on its errors beside a yes.
+const SKIPPED: &[u8] =
+    b"pdb_cli: lines that tell of no part of this bound, and were skipped: 1 of 4\n";
+
+/// The write of this number on the errors fails in this way, as all behind it do: their front is written, and the answer whole.
+fn expect_errors_cut<H: Threads + Wait + Sync + Abort>(
+    rt: &H,
+    alloc: Global,
+    fails_from: usize,
+    how: Failing,
+) -> Result<(), Fail> {
+    let mut out = SampleWriter::new(alloc);
+    let mut err = failing_from(alloc, fails_from, how);
+    let words = ["parts", "board", "6", "3", "first", "others", "sets"];
+    let left = ran_beside(rt, alloc, &words, &mut out, &mut err)?;
+    let is_told = out.taken() == b"bound 6 of 3 2 1 0 from 3 parts\n".as_slice();
+    holds_for(rt, left.status == 0 && is_told, &("write", fails_from));
+    let front = SKIPPED.get(..fails_from).unwrap_or(SKIPPED);
+    same_for(rt, &err.taken(), &front, &fails_from);
     Ok(())
 }
 
 #[test]
-fn all_that_a_run_says_is_one_write(rt: HostRuntime) -> Result<(), Fail> {
-    for case in CASES {
-        expect_taken(&rt, rt.alloc(), case, SampleWriter::new(rt.alloc()), 1)?;
+fn errors_that_cannot_be_written_change_no_status(rt: HostRuntime) -> Result<(), Fail> {
+    for how in [BY_ERROR, Failing::ByTakingNothing] {
+        for fails_from in 0..=SKIPPED.len() {
+            expect_errors_cut(&rt, rt.alloc(), fails_from, how)?;
+        }
     }
-    expect_help_whole(&rt, rt.alloc())
+    Ok(())
 }

@@ -18,6 +18,21 @@ pub(crate) fn same_for<R: Abort, T: PartialEq + Debug, C: Debug>(
     assert_eq!(rt; *found, *wanted, "{case:?}");
 }
 
+/// The same of texts.
+pub(crate) fn same_text<R: Abort>(rt: &R, found: &str, wanted: &str) {
+    same(rt, &found, &wanted);
+}
+
+/// The same of bytes.
+pub(crate) fn same_bytes<R: Abort>(rt: &R, found: &[u8], wanted: &[u8]) {
+    same(rt, &found, &wanted);
+}
+
+/// Whether what was found is what was wanted.
+pub(crate) fn equal<T: PartialEq>(found: &T, wanted: &T) -> bool {
+    *found == *wanted
+}
+
 /// Ends the test where a fact does not hold in some case, and shows the case.
 pub(crate) fn holds_for<R: Abort, C: Debug>(rt: &R, fact: bool, case: &C) {
     assert!(rt; fact, "{case:?}");

@@ -44,13 +44,9 @@ impl<'a> HoldingGate<'a> {
         self.let_on.load(Ordering::SeqCst) == self.held.len() as u64
     }
 
-    fn is_open(&self) -> bool {
-        self.entered.load(Ordering::SeqCst) == self.awaited.len() as u64
-    }
-
     fn wait(&self) {
         for _ in 0..LOOKS {
-            if self.is_open() {
+            if self.entered.load(Ordering::SeqCst) == self.awaited.len() as u64 {
                 self.let_on.fetch_add(1, Ordering::SeqCst);
                 return;
             }
@@ -62,13 +58,11 @@ impl<'a> HoldingGate<'a> {
 impl<'a> Gate for HoldingGate<'a> {
     fn before(&self, job: u64) {
         let place = self.came.fetch_add(1, Ordering::SeqCst);
-        if !self.places.contains(&place) {
-            return;
-        }
-        if self.awaited.contains(&job) {
+        let is_among = self.places.contains(&place);
+        if is_among && self.awaited.contains(&job) {
             self.entered.fetch_add(1, Ordering::SeqCst);
         }
-        if self.held.contains(&job) {
+        if is_among && self.held.contains(&job) {
             self.wait();
         }
     }

@@ -1,4 +1,4 @@
-//! Sample boards, tables and logs, and gates that watch and hold workers, for the tests of several crates.
+//! What tests begin with: boards, tables, logs, gates, and streams, a shelf and files that fail at the calls that they are told.
 #![tactic(auto)]
 
 pub mod boards;
@@ -6,6 +6,12 @@ pub mod files;
 mod gates;
 pub mod logs;
 mod search;
+mod shelves;
+mod streams;
+mod systems;
 
 pub use gates::{HoldingGate, Log};
 pub use search::LeastCosts;
+pub use shelves::{FailingShelf, ShelfFault};
+pub use streams::{EndlessReader, Failing, SampleReader, SampleWriter};
+pub use systems::{Call, OpenSample, SampleFiles};

@@ -21,7 +21,7 @@ use Rattle.pdb_words.specs.Budget.{usual_budget}
 use Rattle.pdb_words.specs.CommandLine.{asked_by, asked_of, faults_of, value_faults_by, parse_faults}
 use Rattle.pdb_words.specs.Commands.{IsCommand, IsPlain}
 use Rattle.pdb_words.specs.Faults.{IsMistaken}
-use Rattle.pdb_words.specs.Files.{needed_file}
+use Rattle.pdb_words.specs.Rows.{needed_file}
 use Rattle.pdb_words.specs.MakeTable.{most_side}
 use Rattle.pdb_words.specs.Numbers.{number_of, number_written, writes_within}
 use Rattle.pdb_words.proofs.CommandLemmas.{asked_behind, faults_behind, leaf, mistaken, mistaken_parse, parse_faults_behind, start}

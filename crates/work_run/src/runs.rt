@@ -10,8 +10,8 @@ use crate::jobs::Job;
 use crate::promises::Worked;
 use crate::worker::work;
 use crate::workers::Workers;
-use book_live::{Book, Memory, Pass};
-use std::alloc::Global;
+use book_live::{Book, Pass};
+use std::alloc::{AllocError, Global};
 use std::snapshot::Snapshot;
 use std::sync::Wait;
 use std::thread;
@@ -28,7 +28,7 @@ pub fn run_jobs<R: Threads + Wait, J: Job + Sync, G: Gate + Sync>(
     job: &J,
     workers: u8,
     gate: &G,
-) -> Result<Option<u64>, Memory>
+) -> Result<Option<u64>, AllocError>
     requires { AreWorkers workers }
     ensures { IfOk result (IsFault (J.bad job.now) (J.begins job.now (J.jobs job.now))) }
 {
@@ -39,7 +39,7 @@ pub fn run_jobs<R: Threads + Wait, J: Job + Sync, G: Gate + Sync>(
 pub fn run_jobs_by<R: Threads + Wait, J: Job + Sync, G: Gate + Sync>(
     job: &J,
     workers: &Workers<'_, R, G>,
-) -> Result<Option<u64>, Memory>
+) -> Result<Option<u64>, AllocError>
     ensures { IfOk result (IsFault (J.bad job.now) (J.begins job.now (J.jobs job.now))) }
 {
     let (rt, gate) = (workers.rt, workers.gate);
@@ -50,7 +50,7 @@ pub fn run_jobs_by<R: Threads + Wait, J: Job + Sync, G: Gate + Sync>(
     let ended = thread::scope(
         thread::scope_env(),
         rt,
-        |scope| -> Result<Vec<Pass>, Memory>
+        |scope| -> Result<Vec<Pass>, AllocError>
             requires { (shared.now.sizes.jobs ≡ J.jobs job.now) × AreNew shared.now passes.items }
             ensures { IfOk result (λ done.
                 AreDone (J.bad job.entry.now) (J.begins job.entry.now) (J.jobs job.entry.now)
@@ -82,7 +82,7 @@ fn work_all<'s, E, R: Threads, J: Job + Sync, G: Gate + Sync>(
     scope: &Scope<'s, E>,
     task: &Shared<'s, J, G>,
     mut passes: Vec<Pass>,
-) -> Result<Vec<Pass>, Memory>
+) -> Result<Vec<Pass>, AllocError>
     requires jobs { task.now.book.now.sizes.jobs ≡ J.jobs task.now.job.now }
     requires new { AreNew task.now.book.now passes.items }
     ensures done { let job = task.now.job.now in IfOk result (λ done.

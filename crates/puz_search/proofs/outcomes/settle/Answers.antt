@@ -1,7 +1,7 @@
 use Rattle.std.proofs.Common.{◌-◌, ◌<◌, length, take, sym, subst, arith}
 use Rattle.std.specs.Prelude.{slice_index_or}
 use Rattle.puz_search.specs.Frontiers.{IsOutcome, all_fail}
-use Rattle.puz_search.specs.declared.outcomes.Outcome.TheVariants.{Refuted}
+use Rattle.puz_search.specs.declared.outcomes.JobOutcome.TheVariants.{Refuted}
 use Rattle.puz_search.proofs.FrontierLemmas.{push_at, settled_more, solved_in, spent_in}
 use Rattle.puz_search.proofs.outcomes.settle.Goals as goal
 

@@ -71,7 +71,6 @@ bounds-tally-place-in-Some c =
 -- the tally after the exchange of one entry
 abbrev stepped : Tally → List ℕ → ℕ → ℕ → Tally
 stepped tally told number place = record {
-  words = tally.words;
   owners = tally.owners;
   sums = slice_set tally.sums number (slice_index tally.sums number - slice_index tally.entries place + slice_index told number);
   first = tally.first;

@@ -35,18 +35,18 @@ loop-set-preserved c =
           (λ k ne. get_or-set_other loop.told number k entry 0 (λ e. ne (e ∙ number_is))) in
           record {
             room = ap length w.told-is ∙ length-set _ _ _ ∙ room;
-            told = one_more (λ k. IsTold v next c.args.slide.tile k (slice_index c.if-set-first.told k)) first set
-                (λ k asked ne. subst (IsTold v next c.args.slide.tile k) (sym (ap (λ xs. slice_index xs k) w.told-is ∙ others k ne)) (was.told k asked))
-                (subst (IsTold v next c.args.slide.tile set) (sym (ap (λ xs. slice_index xs set) w.told-is ∙ here)) w.in-Some-judged.ensures.told);
+            told = one_more (λ k. IsTold v next c.args.tile k (slice_index c.if-set-first.told k)) first set
+                (λ k asked ne. subst (IsTold v next c.args.tile k) (sym (ap (λ xs. slice_index xs k) w.told-is ∙ others k ne)) (was.told k asked))
+                (subst (IsTold v next c.args.tile set) (sym (ap (λ xs. slice_index xs set) w.told-is ∙ here)) w.in-Some-judged.ensures.told);
             low = one_more (IsLow v next c.args.limit) first set (λ k asked ne. was.low k asked) w.in-Some-judged.ensures.low;
           }
       | else-set-first w ↦
           let same : set ≡ first = w.if-set-first.false in
           record {
             room = ap length w.told-is ∙ was.room;
-            told = one_more (λ k. IsTold v next c.args.slide.tile k (slice_index c.if-set-first.told k)) first set
-                (λ k asked ne. subst (IsTold v next c.args.slide.tile k) (sym (ap (λ xs. slice_index xs k) w.told-is)) (was.told k asked))
-                (subst (IsTold v next c.args.slide.tile set) (sym (ap (λ xs. slice_index xs set) w.told-is)) (was.told set (inl same)));
+            told = one_more (λ k. IsTold v next c.args.tile k (slice_index c.if-set-first.told k)) first set
+                (λ k asked ne. subst (IsTold v next c.args.tile k) (sym (ap (λ xs. slice_index xs k) w.told-is)) (was.told k asked))
+                (subst (IsTold v next c.args.tile set) (sym (ap (λ xs. slice_index xs set) w.told-is)) (was.told set (inl same)));
             low = one_more (IsLow v next c.args.limit) first set (λ k asked ne. was.low k asked) (was.low set (inl same));
           }
     ]

@@ -6,6 +6,6 @@ use Rattle.puz_walk.proofs.tallies.judge.Given as goal
 abbrev pub invariant-loop-set : goal.invariant-loop-set
 invariant-loop-set l = record {
   room : length l.told ≡ 16;
-  told : (k : ℕ) → (k ≡ l.tally.first) ⊎ (k < l.set) → IsTold l.position.bundle l.position.board l.slide.tile k (slice_index l.told k);
+  told : (k : ℕ) → (k ≡ l.tally.first) ⊎ (k < l.set) → IsTold l.position.bundle l.position.board l.tile k (slice_index l.told k);
   low : (k : ℕ) → (k ≡ l.tally.first) ⊎ (k < l.set) → IsLow l.position.bundle l.position.board l.limit k;
 }

@@ -1,13 +1,10 @@
 use Rattle.std.proofs.Common.{◌≡◌, ◌+◌, ◌-◌, ◌*◌, ◌<◌, ◌≤◌, get_or, slice_index, Some, None, sym, subst, arith}
 use Rattle.set_sum.specs.Bundles.{IsBundle}
-use Rattle.set_sum.specs.Known.{said_by}
-use Rattle.set_sum.specs.Members.{MemberSays}
 use Rattle.puz_walk.specs.StoredWords.{HasNoOwner, IsOwner}
 use Rattle.puz_walk.specs.declared.owners.Owner.{Owner}
 use Rattle.puz_walk.proofs.OwnerLemmas.{member_there}
-use Rattle.puz_walk.proofs.TallyLemmas.{entry_fits, entry_place_low, moved_cut, moved_low, old_number, own_moves, own_table, own_told, owner_at}
-use Rattle.puz_walk.proofs.TallyLemmas.{still_cut, still_low, tile_low}
-use Rattle.puz_walk.proofs.tallies.judged.Goals.{After-from-3, After-from-4, in-None, in-Some-words_of}
+use Rattle.puz_walk.proofs.TallyLemmas.{entry_fits, entry_place_low, moved_cut, moved_low, own_table, own_told, owner_at, still_cut, still_low, tile_low}
+use Rattle.puz_walk.proofs.tallies.judged.Goals.{After-from-3}
 use Rattle.puz_walk.proofs.tallies.judged.Goals as goal
 
 -- the bundle is one
@@ -16,22 +13,22 @@ bundle c = subst IsBundle c.bundle.ensures c.sets-sets.ensures.bundle
 
 -- the owner is the one of the tile
 owns : (c : After-from-3) (owner : Owner) → get_or c.args.tally.now.owners (32 * c.from-2.result + c.from-3.result) None ≡ Some owner
-    → IsOwner c.args.position.now.bundle c.args.set c.args.slide.tile owner
+    → IsOwner c.args.position.now.bundle c.args.set c.args.tile owner
 owns c owner is =
     let v = c.args.position.now.bundle in
     let tally = c.args.tally.now in
-    owner_at v tally.owners c.requires.moved.3.owners c.args.set c.args.slide.tile c.requires.set
-    (tile_low v c.requires.moved.0 c.args.position.now.board c.args.slide.tile c.requires.moved.1) c.from-2.result c.from-3.result
+    owner_at v tally.owners c.requires.moved.2.owners c.args.set c.args.tile c.requires.set
+    (tile_low v c.requires.moved.0 c.args.position.now.board c.args.tile c.requires.moved.1) c.from-2.result c.from-3.result
     c.from-2.ensures c.from-3.ensures (Some owner) is
 
 -- no member has the tile
 none : (c : After-from-3) → get_or c.args.tally.now.owners (32 * c.from-2.result + c.from-3.result) None ≡ None
-    → HasNoOwner c.args.position.now.bundle c.args.set c.args.slide.tile
+    → HasNoOwner c.args.position.now.bundle c.args.set c.args.tile
 none c is =
     let v = c.args.position.now.bundle in
     let tally = c.args.tally.now in
-    owner_at v tally.owners c.requires.moved.3.owners c.args.set c.args.slide.tile c.requires.set
-    (tile_low v c.requires.moved.0 c.args.position.now.board c.args.slide.tile c.requires.moved.1) c.from-2.result c.from-3.result
+    owner_at v tally.owners c.requires.moved.2.owners c.args.set c.args.tile c.requires.set
+    (tile_low v c.requires.moved.0 c.args.position.now.board c.args.tile c.requires.moved.1) c.from-2.result c.from-3.result
     c.from-2.ensures c.from-3.ensures None is
 
 -- a set without an owner of the tile whose kept sum is below the limit is low
@@ -39,8 +36,8 @@ pub returns-then-sum-limit-clause-low : goal.returns-then-sum-limit-clause-low
 returns-then-sum-limit-clause-low c =
     let at = (goal.at.returns-then-sum-limit-clause-low c).After-from-3 in
     let tally = c.args.tally.now in
-    still_low c.args.position.now.bundle (bundle at) c.requires.moved.0 c.args.position.now.board c.args.slide.tile c.requires.moved.1 tally
-    c.requires.moved.3 c.args.set c.requires.set c.args.limit (none at c.in_default.is)
+    still_low c.args.position.now.bundle (bundle at) c.requires.moved.0 c.args.position.now.board c.args.tile c.requires.moved.1 tally
+    c.requires.moved.2 c.args.set c.requires.set c.args.limit (none at c.in_default.is)
     (subst (λ k. slice_index tally.sums k < c.args.limit) c.from.ensures c.if-sum-limit.true)
 
 -- a set without an owner of the tile whose kept sum isn't below the limit makes the board go beyond it
@@ -48,15 +45,15 @@ pub returns-else-sum-limit-clause-cut : goal.returns-else-sum-limit-clause-cut
 returns-else-sum-limit-clause-cut c =
     let at = (goal.at.returns-else-sum-limit-clause-cut c).After-from-3 in
     let tally = c.args.tally.now in
-    still_cut c.args.position.now.bundle (bundle at) c.requires.moved.0 c.args.position.now.board c.args.slide.tile c.requires.moved.1 tally
-    c.requires.moved.3 c.args.set c.requires.set c.args.limit (none at c.in_default.is)
+    still_cut c.args.position.now.bundle (bundle at) c.requires.moved.0 c.args.position.now.board c.args.tile c.requires.moved.1 tally
+    c.requires.moved.2 c.args.set c.requires.set c.args.limit (none at c.in_default.is)
     (λ below. let l = subst (λ k. slice_index tally.sums k < c.args.limit) (sym c.from.ensures) below in let no = c.if-sum-limit.false in omega arith)
 
 -- the owner that is found in a judged set has a table with a number below 16
 pub entry_place-requires : goal.entry_place-requires
 entry_place-requires c =
     let at = (goal.at.entry_place-requires c).After-from-3 in
-    own_table c.args.position.now.bundle c.requires.moved.0 c.args.position.now.board c.args.slide.tile c.requires.moved.1
+    own_table c.args.position.now.bundle c.requires.moved.0 c.args.position.now.board c.args.tile c.requires.moved.1
     (bundle at) c.args.set c.requires.set c.in-Some.owner (owns at c.in-Some.owner c.in-Some.is)
 
 -- the entry of the owner in a judged set has a place that the tally has
@@ -64,7 +61,7 @@ pub bounds-tally-entry_place : goal.bounds-tally-entry_place
 bounds-tally-entry_place c =
     let at = (goal.at.bounds-tally-entry_place c).After-from-3 in
     let v = c.args.position.now.bundle in
-    let table = own_table v c.requires.moved.0 c.args.position.now.board c.args.slide.tile c.requires.moved.1
+    let table = own_table v c.requires.moved.0 c.args.position.now.board c.args.tile c.requires.moved.1
     (bundle at) c.args.set c.requires.set c.in-Some.owner (owns at c.in-Some.owner c.in-Some.is) in
     let few = (bundle at).few_sets in
     let there = c.requires.set in
@@ -76,8 +73,8 @@ overflow_sub-others c =
     let at = (goal.at.overflow_sub-others c).After-from-3 in
     let tally = c.args.tally.now in
     subst (λ k. slice_index tally.entries c.entry_place.result ≤ slice_index tally.sums k) (sym c.from.ensures)
-    (entry_fits c.args.position.now.bundle (bundle at) c.requires.moved.0 c.args.position.now.board c.args.slide.tile c.requires.moved.1 tally
-    c.requires.moved.3 c.args.set c.requires.set c.args.limit
+    (entry_fits c.args.position.now.bundle (bundle at) c.requires.moved.0 c.args.position.now.board c.args.tile c.requires.moved.1 tally
+    c.requires.moved.2 c.args.set c.requires.set c.args.limit
     c.in-Some.owner (owns at c.in-Some.owner c.in-Some.is) c.entry_place.result c.entry_place.ensures)
 
 -- the owner in a judged set has a table of the bundle, so that the position has an entry for it
@@ -87,42 +84,13 @@ entry-entry-requires c =
     let is = owns at c.in-Some.owner c.in-Some.is in
     member_there c.args.position.now.bundle (bundle at) c.args.set c.requires.set is.number c.in-Some.owner.member is.member
 
--- where the owner's table has words, a move of its tile has led to the board, and it said a number before
-pub entry_by-entry-requires-clause-moved : goal.entry_by-entry-requires-clause-moved
-entry_by-entry-requires-clause-moved c =
-    let at = (goal.at.entry_by-entry-requires-clause-moved c).After-from-3 in
-    let v = c.args.position.now.bundle in
-    let b = c.requires.moved.0 in
-    let next = c.args.position.now.board in
-    let is = owns at c.in-Some.owner c.in-Some.is in (
-      b,
-      own_moves v b next c.args.slide.tile c.requires.moved.1 c.args.slide.mv c.requires.moved.2 c.args.set c.in-Some.owner is,
-      old_number v (bundle at) b next c.args.slide.tile c.requires.moved.1 c.args.tally.now c.requires.moved.3 c.args.set c.requires.set c.args.limit
-          c.in-Some.owner is c.entry_place.result c.entry_place.ensures,
-    )
-
--- the words that the tally has for the owner's table are of that table
-pub entry_by-entry-requires-clause-words : goal.entry_by-entry-requires-clause-words
-entry_by-entry-requires-clause-words c =
-    c.requires.moved.3.words c.in-Some.owner.member.table c.in-Some-words_of.words.now (c.in-Some-words_of.ensures {u = tt})
-
--- what the owner says of the board, as its words or its table tell
-says : (c : After-from-4) → MemberSays c.args.position.now.bundle.tables c.in-Some.owner.member c.args.position.now.board (said_by c.match-words_of.entry)
-says c =
-    elim c.match-words_of.branch [
-      | in-Some-words_of w ↦ subst (λ k. MemberSays c.args.position.now.bundle.tables c.in-Some.owner.member c.args.position.now.board (said_by k))
-          (sym w.entry-is) w.entry_by-entry.ensures
-      | in-None w ↦ subst (λ k. MemberSays c.args.position.now.bundle.tables c.in-Some.owner.member c.args.position.now.board (said_by k))
-          (sym w.entry-is) w.entry-entry.ensures
-    ]
-
--- the entry of the owner of the tile is what the judged set is to answer
+-- the entry that is looked up for the owner of the tile is what the judged set is to answer
 pub returns-then-from-clause-told : goal.returns-then-from-clause-told
 returns-then-from-clause-told c =
     let at = (goal.at.returns-then-from-clause-told c).After-from-3 in
-    own_told c.args.position.now.bundle c.requires.moved.0 c.args.position.now.board c.args.slide.tile c.requires.moved.1
+    own_told c.args.position.now.bundle c.requires.moved.0 c.args.position.now.board c.args.tile c.requires.moved.1
     (bundle at) c.args.set c.requires.set c.in-Some.owner (owns at c.in-Some.owner c.in-Some.is)
-    c.args.position.now.board c.match-words_of.entry (says (goal.at.returns-then-from-clause-told c).After-from-4)
+    c.args.position.now.board c.entry-entry.result c.entry-entry.ensures
 
 -- a judged set is low where the sum of its other members and the owner's new entry is below the limit
 pub returns-then-from-clause-low : goal.returns-then-from-clause-low
@@ -130,11 +98,11 @@ returns-then-from-clause-low c =
     let at = (goal.at.returns-then-from-clause-low c).After-from-3 in
     let tally = c.args.tally.now in
     let old = slice_index tally.entries c.entry_place.result in
-    moved_low c.args.position.now.bundle (bundle at) c.requires.moved.0 c.args.position.now.board c.args.slide.tile c.requires.moved.1 tally
-    c.requires.moved.3 c.args.set c.requires.set c.args.limit
-    c.in-Some.owner (owns at c.in-Some.owner c.in-Some.is) c.entry_place.result c.entry_place.ensures c.match-words_of.entry (says (goal.at.returns-then-from-clause-low c).After-from-4)
+    moved_low c.args.position.now.bundle (bundle at) c.requires.moved.0 c.args.position.now.board c.args.tile c.requires.moved.1 tally
+    c.requires.moved.2 c.args.set c.requires.set c.args.limit
+    c.in-Some.owner (owns at c.in-Some.owner c.in-Some.is) c.entry_place.result c.entry_place.ensures c.entry-entry.result c.entry-entry.ensures
     c.requires.limit
-    (subst (λ k. slice_index tally.sums k - old + c.match-words_of.entry < c.args.limit) c.from.ensures
+    (subst (λ k. slice_index tally.sums k - old + c.entry-entry.result < c.args.limit) c.from.ensures
     (let l = c.if-from.true in let f = c.from-4.ensures in let g = c.from-5.ensures in let h = c.from-6.ensures in omega arith))
 
 -- a judged set goes beyond the limit where the sum of its other members and the owner's new entry isn't below it
@@ -143,8 +111,8 @@ returns-else-from-clause-cut c =
     let at = (goal.at.returns-else-from-clause-cut c).After-from-3 in
     let tally = c.args.tally.now in
     let old = slice_index tally.entries c.entry_place.result in
-    moved_cut c.args.position.now.bundle (bundle at) c.requires.moved.0 c.args.position.now.board c.args.slide.tile c.requires.moved.1 tally
-    c.requires.moved.3 c.args.set c.requires.set c.args.limit
-    c.in-Some.owner (owns at c.in-Some.owner c.in-Some.is) c.entry_place.result c.entry_place.ensures c.match-words_of.entry (says (goal.at.returns-else-from-clause-cut c).After-from-4)
-    (λ below. let k = subst (λ k. slice_index tally.sums k - old + c.match-words_of.entry < c.args.limit) (sym c.from.ensures) below in
+    moved_cut c.args.position.now.bundle (bundle at) c.requires.moved.0 c.args.position.now.board c.args.tile c.requires.moved.1 tally
+    c.requires.moved.2 c.args.set c.requires.set c.args.limit
+    c.in-Some.owner (owns at c.in-Some.owner c.in-Some.is) c.entry_place.result c.entry_place.ensures c.entry-entry.result c.entry-entry.ensures
+    (λ below. let k = subst (λ k. slice_index tally.sums k - old + c.entry-entry.result < c.args.limit) (sym c.from.ensures) below in
     let l = c.if-from.false in let f = c.from-4.ensures in let g = c.from-5.ensures in let h = c.from-6.ensures in omega arith)

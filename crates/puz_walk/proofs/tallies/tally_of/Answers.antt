@@ -17,7 +17,6 @@ returns-clause-some c =
     (subst (λ u. BundleSays u set c.args.board.now (Finite (slice_index sums set)) × (slice_index sums set ≤ c.args.most)) same
     (c.in_ok-sums.ensures.some set (subst (λ u. set < length u.sets) (sym same) low)))) in (
       record {
-        words = c.requires.words;
         sums_room = c.in_ok-sums.ensures.room;
         entries_room = c.all_entries.ensures.room;
         first = subst (λ u. 0 < length u.sets) same c.sets-sets.ensures.bundle.some_sets;

@@ -47,8 +47,6 @@ judge-requires-clause-moved c =
     let at = sym c.slide-tile.ensures.board in (
       s.position.board,
       subst (λ p. IsSlideOf p.bundle s.position.board p.board c.slide-tile.result) at slide,
-      subst (λ p. moved s.position.board c.args.mv ≡ Some p.board) at
-          (leads s c.self.invariant c.args.mv to (on _ _ c.self.view_is c.args.mv _ c.in_ok-to.ensures)),
       subst (λ p. AreTallied p.bundle s.position.board s.tally) at c.self.invariant.tally,
     )
 

@@ -1,0 +1,87 @@
+//! What is said of a bound in parts where texts of answer lines were read, and how many of the lines are skipped.
+
+use crate::same::{same, same_for};
+use claim_text::{Asks, part_line, read_claims};
+use move_strings::BoundPart;
+use pdb_parts::{BoundInParts, Joined, LineCounts, join};
+use puz_board::Board;
+use std::alloc::{AllocError, AllocGlobal, Global};
+use std::process::Abort;
+use std::test::Fail;
+
+/// The board `3 2 1 0`.
+fn board(rt: &impl Abort) -> Board {
+    Board::from_cells(&[3, 2, 1, 0]).expect(rt, "a board")
+}
+
+/// What is said of the bound 6 of that board in so many parts, where these texts were read.
+fn joined<R: AllocGlobal + Abort>(rt: &R, count: u16, texts: &[Vec<u8>]) -> Joined {
+    assert!(rt; count % 2 == 1);
+    let asked = BoundInParts {
+        board: board(rt),
+        bound: 6,
+        count,
+    };
+    join(rt.alloc(), texts, &asked).ok().expect(rt, "memory")
+}
+
+/// These texts, as vectors.
+fn texts_of(alloc: Global, texts: &[&[u8]]) -> Result<Vec<Vec<u8>>, AllocError> {
+    let mut all = Vec::new(alloc);
+    for text in texts {
+        all.push(text.to_vec(alloc)?)?;
+    }
+    Ok(all)
+}
+
+#[test]
+fn parts_may_come_from_several_texts(rt: HostRuntime) -> Result<(), Fail> {
+    let first: &[u8] = b"part 2/3 of bound 6 of 3 2 1 0\nx\n";
+    let cut: &[u8] = b"part 0/3 of bound 6 of 3 2 1 0\npart 1/3 of";
+    let last: &[u8] = b" bound 6 of 3 2 1 0\npart 1/3 of bound 6 of 3 2 1 0\n";
+    let cases: [(&[&[u8]], &str, (usize, usize)); 2] = [
+        (&[first, cut], "3 2 1 0 : 6 part 1/3\n", (3, 1)),
+        (
+            &[first, cut, last],
+            "bound 6 of 3 2 1 0 from 3 parts\n",
+            (5, 2),
+        ),
+    ];
+    for (texts, text, (all, skipped)) in cases {
+        let joined = joined(&rt, 3, texts_of(rt.alloc(), texts)?.as_slice());
+        same_for(&rt, &joined.text.as_str(), &text, &texts);
+        same(&rt, &joined.is_yes, &text.starts_with("bound"));
+        same(&rt, &joined.counts, &LineCounts { all, skipped });
+    }
+    Ok(())
+}
+
+/// Ends the test where a text hasn't so many claims, of which the last is this part of that bound.
+fn expect_last<R: AllocGlobal + Abort>(rt: &R, text: &[u8], count: usize, part: BoundPart) {
+    let claims = read_claims(rt.alloc(), text).ok().expect(rt, "claims");
+    same(rt, &claims.len(), &count);
+    let last = claims.last().expect(rt, "a claim");
+    assert!(rt; last.board == board(rt) && last.asks == Asks::Part(6, part));
+}
+
+#[test]
+fn open_parts_are_read_as_claims_and_their_answers_give_the_bound(
+    rt: HostRuntime,
+) -> Result<(), Fail> {
+    let open = joined(&rt, 63, &[]);
+    let mut answers = Vec::new(rt.alloc());
+    for index in 0..63 {
+        let part = BoundPart::new(index, 63).expect(&rt, "a part");
+        answers.extend_from_slice(part_line(part, 6, &board(&rt)).as_str().as_bytes())?;
+    }
+    let last = BoundPart::new(62, 63).expect(&rt, "a part");
+    expect_last(&rt, open.text.as_bytes(), 63, last);
+    let texts = texts_of(rt.alloc(), &[answers.as_slice()])?;
+    let given = joined(&rt, 63, texts.as_slice());
+    same(
+        &rt,
+        &given.text.as_str(),
+        &"bound 6 of 3 2 1 0 from 63 parts\n",
+    );
+    Ok(())
+}
