@@ -10,9 +10,10 @@ behind it for one of them, or CRATE::FILE::NAME for a definition of crates/CRATE
 headline. Definitions of the kit (its standard library, `clap`, `sha2` and others) are not followed, but those of `clap` are
 counted where the kit is there. Lines are those of the definitions alone: no comments, no imports, no empty lines.
 
-Each number of BELIEVE.md is compared, and each definition must be named there under its file, with none besides. Of README.md
-its quote of the clause is compared, and how many definitions it says are behind it. A line is written for each of these that
-fails, and last the line `N passed, M failed`. The status is 0 if all passed.
+Each number of BELIEVE.md is compared, and each definition must be named there under its file, with none besides. Its quote of the
+verdict must be the line that a build requires of the kit. Of README.md its quote of the clause is compared, and how many
+definitions it says are behind it. A line is written for each of these that fails, and last the line `N passed, M failed`. The
+status is 0 if all passed.
 """
 
 import functools
@@ -27,6 +28,7 @@ ROOT = Path(__file__).resolve().parents[2]
 KIT = Path(shutil.which("rt") or "/none").resolve().parent.parent / "rattle"
 PAGE = ROOT / "docs" / "BELIEVE.md"
 README = ROOT / "README.md"
+BUILD = ROOT / "tools" / "build" / "build.sh"
 RUN = "pdb_program::programs::run"
 CLAUSE = RUN + ".headline"
 HEADLINE = "pdb_program::Headline::Headline"
@@ -342,6 +344,11 @@ def check_page(page):
     yield "the headline is quoted", quoted(page, text[last_import + 2 :])
 
 
+def check_verdict(page, script):
+    verdict = re.search(r"^verdict='(.*)'$", script, re.MULTILINE)[1]
+    yield f"the verdict is quoted: {verdict}", re.findall(r"^ *(logic=.*)$", page, re.MULTILINE) == [verdict]
+
+
 def check_readme(page):
     yield "README.md: the clause is quoted", quoted(page, clause_text("programs", "run"))
     headline, clause = behind(HEADLINE, *roots_of(LOG), *roots_of(ANSWERS)), behind(CLAUSE)
@@ -351,7 +358,8 @@ def check_readme(page):
 
 def compare():
     passed = failed = 0
-    for name, holds in [*check_page(PAGE.read_text()), *check_readme(README.read_text())]:
+    page = PAGE.read_text()
+    for name, holds in [*check_page(page), *check_verdict(page, BUILD.read_text()), *check_readme(README.read_text())]:
         passed += holds
         failed += not holds
         if not holds:

@@ -15,7 +15,7 @@ import sys
 
 ROOT = pathlib.Path(__file__).resolve().parents[2]
 WITHOUT_EXAMPLE = {"pdb_cli", "word_laws", "claim_laws", "puz_walk"}
-SAMPLES = {"test_samples", "test_streams"}
+SAMPLES = {"test_samples"}
 
 
 def bare(text):

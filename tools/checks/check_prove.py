@@ -299,8 +299,8 @@ def budgets(program, checks, claims, tables):
 
 
 def large_budgets(program, checks):
-    """Bounds that take more boards than one thread searches alone: the least budget is the same for all workers. Over one table all
-    words are made of it, over nine they are made beside them."""
+    """Bounds that take more boards than one thread searches alone: the least budget is the same for all workers. Over one table words
+    are made of it, over nine the sums of all are asked."""
     masks = [2**tile for tile in range(1, 9)] + [14]
     tables = [f"side_3_{mask}" for mask in masks]
     for table, mask in zip(tables, masks):

@@ -1,8 +1,9 @@
 #!/usr/bin/env bash
 # Runs the built program and checks what it writes, where it writes it and its status: words, streams, files and their
 # names, limits, tables, workers, claims, want of memory, changed inputs, whole puzzles, boards of the literature, the tour,
-# sizes, budgets, and runs at once. What is wanted follows from docs/FORMATS.md, and of tables and searches from a plain
-# search that does. It also has docs/BELIEVE.md compared with what is proved.
+# sizes, budgets, work, and runs at once. What is wanted follows from docs/FORMATS.md, and of tables and searches from a plain
+# search that does. It also has docs/BELIEVE.md compared with what is proved, and these checks themselves tried on a program
+# that is spoiled.
 #
 #     tools/checks/check_runs.sh [PROGRAM]
 #
@@ -49,6 +50,23 @@ bytes() {
     for number in $1; do
         printf '%b' "\\x$number"
     done
+}
+
+# Whether another script has tried something, and nothing failed.
+passed_all() {
+    [ "$status" = 0 ] && tail -n 1 "$work/output" | grep -Eqx '[1-9][0-9]* passed, 0 failed'
+}
+
+# Another script of checks must pass, and its own checks count too: passes NAME SCRIPT WORD..
+passes() {
+    status=0
+    "$root/tools/checks/$2" "${@:3}" >"$work/output" 2>"$work/errors" || status=$?
+    grep '^FAILED' "$work/output"
+    check "$1" passed_all
+    if [[ $(tail -n 1 "$work/output") =~ ^([0-9]+)\ passed,\ ([0-9]+)\ failed$ ]]; then
+        passed=$((passed + BASH_REMATCH[1]))
+        failed=$((failed + BASH_REMATCH[2]))
+    fi
 }
 
 #
@@ -164,49 +182,6 @@ for words in --version -V '--version table' '-V --help'; do
     run $words
     check "the version by $words" told_the_version
 done
-for words in rplay 'replay a b' 'replay --workers 2' 'replay --workers 2 solved' table 'table a b' --workers \
-    '--workers 2 table F1' 'table --none F1' 'table F1 --workers' 'table F1 --workers 2 --workers 2' -x 'replay -x' \
-    'table F1 --workers 0' 'table F1 --workers 65' 'table F1 --workers x' 'table F1 --workers -1' 'table F1 --workers 1.5' \
-    'table F1 --workers 256' 'table F1 --workers 18446744073709551617' bound 'bound b' 'bound b s' 'bound b s l' \
-    'bound --workers 2 b s l' 'bound b s l t --workers 0' 'bound b s l t --workers 65' 'bound b s l t --none' \
-    optimal 'optimal p s l' 'optimal p s l t --workers x' make-table 'make-table 2' 'make-table 2 14' 'make-table x 2 o' \
-    'make-table 2 x o' 'make-table -2 14 o' 'make-table 256 2 o' 'make-table 2 4294967296 o' 'make-table 2 14 o p' \
-    'make-table 2 14 o --workers 0' 'make-table 2 14 o --budget 1' solve 'solve b s o' 'solve --budget 0 b s o t' \
-    'solve b s o t --budget 1000000000001' 'solve b s o t --budget x' 'solve b s o t --workers 65' \
-    'table F1 --fold' 'replay solved --fold' 'make-table 2 14 o --fold' --fold 'bound b s l --fold' 'bound b s l t --fold=1' \
-    'optimal p s l t --fold --fold' 'solve b s o --fold' prove 'prove c' 'prove c s' 'prove - s' 'prove c s t --budget 0' \
-    'prove c s t --budget x' 'prove --budget 1000000000001 c s t' 'prove c s t --budget' 'prove c s t --workers 0' \
-    'prove --workers 65 c s t' 'prove c s t --none' 'prove c s --fold' 'prove c s t --fold --fold' \
-    'make-table 2 14 o --replace --replace' 'make-table 2 14 o --replace=1' 'table F1 --replace' \
-    'bound b s l t --replace' 'table --version' 'solve -V' --version=1 'make-table 2 1e o' 'make-table 2 0x o' 'make-table 2 0x1g o' \
-    'make-table 2 0x+e o' 'make-table 2 0X1e o' 'make-table 2 0x100000000 o' 'make-table 2 tiles: o' \
-    'make-table 2 tiles o' 'make-table 2 tiles:1, o' 'make-table 2 tiles:1,,2 o' 'make-table 2 tiles:2,2 o' \
-    'make-table 2 tiles:01 o' 'make-table 2 tiles:32 o' 'make-table 2 1,2 o' 'make-table 2 tiles:1 o p' \
-    parts 'parts b' 'parts b 6' 'parts b 6 3' 'parts b 256 3 a' 'parts b -1 3 a' 'parts b x 3 a' 'parts b 6 0 a' 'parts b 6 2 a' \
-    'parts b 6 65534 a' 'parts b 6 65537 a' 'parts b 6 x a' 'parts b 6 3 a --workers 2' 'parts b 6 3 a --fold' \
-    'parts b 6 3 a --budget 1' 'parts b 6 3 a --replace'; do
-    # shellcheck disable=SC2086
-    run $words
-    check "the mistake in $words" told_a_mistake
-done
-# A mistake in a mask is told with this: no_mask MASK TEXT
-no_mask() {
-    run make-table 2 "$1" made
-    check "the mistake in the mask $1" told_a_mistake
-    check "what is wrong with the mask $1" grep -qxF -- "error: invalid value '$1' for '<MASK>': $2" "$work/errors"
-}
-no_mask 4294967296 '4294967296 is not in 0..=4294967295'
-no_mask x 'a mask is a number from 0 to 4294967295, as 30 or 0x1e, or its tiles, as tiles:1,2,3,4'
-no_mask '' 'a mask is a number from 0 to 4294967295, as 30 or 0x1e, or its tiles, as tiles:1,2,3,4'
-no_mask 0xg 'hexadecimal digits write a number up to 0xffffffff, as 0x1e'
-no_mask tiles:3,3 'tiles are numbers from 0 to 31, none twice, with commas between them, as tiles:1,2,3,4'
-run make-table 2 $'\e[2K\x7f' made
-check 'escape codes in a mask' grep -qF "invalid value '?[2K?' for" "$work/errors"
-run parts board 6 2 a
-check 'what is wrong with an even count of parts' \
-    grep -qxF -- "error: invalid value '2' for '<K>': a bound has an odd number of parts" "$work/errors"
-run table F1 --workers $'\e]0;é\a'
-check 'escape codes in another word' grep -qF "invalid value '?]0;???' for" "$work/errors"
 run ''
 check 'the mistake in an empty word' told_a_mistake
 run 'replay solved'
@@ -671,11 +646,9 @@ proves_each_way true_claims one_set "$seventeen" 1 'refused S5'
 expect 'claims that are not there' 2 'fault read C' : prove C one_set F12
 expect 'sets of claims that are not there' 2 'fault read S' : prove true_claims S F12
 expect 'a table of claims that is not there' 2 'fault read T' : prove true_claims one_set F12 T
+# A file whose name is - has another name too.
 cp true_claims ./-
-run prove ./- one_set F12
-mv "$work/output" "$work/own_answer"
-run prove true_claims one_set F12
-check 'claims of a file whose name is -, by another name of it' cmp -s "$work/output" "$work/own_answer"
+proves ./- one_set F12 0 "${true_answers[@]}" :
 rm ./-
 truncate -s 67108865 long_claims
 expect 'claims over their limit' 2 'fault size long_claims' : prove long_claims one_set F12
@@ -878,8 +851,8 @@ does_without() {
 does_without LAST=100 hard_claim one_set three_of_side_3
 does_without EVERY=997 hard_claim one_set three_of_side_3
 
-# More than 8 tables stay beside their words, with which the last 180 requests or so begin. This board is 31 moves from the goal board,
-# and no set says much of it.
+# Over more than 8 tables there are no edge words: the sums of all are asked. This board is 31 moves from the goal board, and no set says
+# much of it.
 nine_of_side_3=()
 for mask in 2 4 8 16 32 64 128 256; do
     "$bare" make-table 3 "$mask" "side_3_$mask" >/dev/null
@@ -943,7 +916,7 @@ limit_stack prove false_claims sixteen_mirrors "${most_tables[@]}" --workers 64 
 limit_stack prove false_claims sixteen_mirrors "${most_tables[@]}" --workers 64
 limit_stack prove other_part_claims one_set "${most_tables[@]}" --workers 64
 limit_stack prove true_claims one_set F12 F12 F12 F12 F12 F12 F12 F12 --workers 64
-# For this claim words are made, of so many tables beside them.
+# For this claim words are made; over sixteen tables there are none.
 limit_stack prove hard_claim one_set three_of_side_3 --workers 64
 sixteen_of_side_3=("${nine_of_side_3[@]}" "${nine_of_side_3[@]:2}")
 limit_stack prove hard_claims sets_of_nine "${sixteen_of_side_3[@]}" --workers 64
@@ -1018,16 +991,19 @@ check 'a table is told while it is made and while it is checked' told_kinds \
 rm made tiles_1_to_4 tiles_5_to_8 sets board_of_3
 
 # A search tells its pace, and no shares.
-echo '0 3 2 4 1 8 7 6 5' >claims
-run prove claims mirror all_of_side_3
+told_paces_alone() {
+    [ -s "$work/errors" ] && ! grep -Evqx 'pdb_cli: claim 0, below 29: [0-9]+ boards, [0-9]+ a second' "$work/errors"
+}
+echo '8 0 6 5 4 7 2 3 1 : 29' >claims
+run prove claims one_set three_of_side_3
 own_status=$status
 mv "$work/output" "$work/own_answer"
 for workers in 1 4; do
     status=0
-    (export PDB_PROGRESS=1 LD_PRELOAD=$work/step_clock.so && exec "$bare" prove claims mirror all_of_side_3 --workers "$workers") \
+    (export PDB_PROGRESS=1 LD_PRELOAD=$work/step_clock.so && exec "$bare" prove claims one_set three_of_side_3 --workers "$workers") \
         >"$work/output" 2>"$work/errors" || status=$?
     check "progress of $workers workers leaves the answer to a claim" same_line_and_status
-    check "$workers workers tell lines of progress alone" [ -z "$(grep -v '^pdb_cli: ' "$work/errors")" ]
+    check "$workers workers tell paces alone" told_paces_alone
 done
 
 #
@@ -1043,14 +1019,7 @@ check '2,000 changed inputs are answered as their plain answers say' \
 # Whole puzzles.
 #
 
-status=0
-"$root/tools/checks/check_prove.py" "$bare" >"$work/output" 2>"$work/errors" || status=$?
-check 'claims on the boards of sides 2 to 4 are answered as a breadth-first search says' [ "$status" = 0 ]
-# Its own checks count too.
-if [[ $(tail -n 1 "$work/output") =~ ^([0-9]+)\ passed,\ ([0-9]+)\ failed$ ]]; then
-    passed=$((passed + BASH_REMATCH[1]))
-    failed=$((failed + BASH_REMATCH[2]))
-fi
+passes 'claims on the boards of sides 2 to 4 are answered as a breadth-first search says' check_prove.py "$bare"
 
 #
 # Boards of the literature.
@@ -1065,59 +1034,6 @@ check "Korf's hundred boards of the 15-puzzle have the shortest solutions that d
     cmp -s "$work/output" "$root/docs/results/korf_1985.answers"
 check "Korf's hundred boards are all answered with a yes" [ "$status" = 0 ]
 
-# A run over a table whose check takes a while must tell this first, then how far the check has come, and end with this line, behind
-# the digests of these files, and its sentence: told_ahead SENTENCE LINE FILES WORD..
-told_ahead() {
-    local sentence=$1 line=$2 file digest lines=()
-    for file in $3; do
-        digest=$(sha256sum <"$file")
-        lines+=("sha256 ${digest%% *}")
-    done
-    shift 3
-    status=0
-    (export PDB_PROGRESS=1 LD_PRELOAD=$work/step_clock.so && exec "$bare" "$@") >"$work/output" 2>"$work/told" || status=$?
-    { head -n 1 "$work/told" && sed -n 2p "$work/told" && tail -n 1 "$work/told"; } >"$work/errors"
-    check "$line of $1 is told ahead" [ "$(sed -n 1p "$work/errors")" = "pdb_cli: this run can't end in a yes: $sentence" ]
-    check "$line of $1 is told ahead of the check" grep -qE '^pdb_cli: korf_9826, 1 of [0-9]: [0-9]+ percent' <(sed -n 2p "$work/errors")
-    check "$line of $1 is told once" [ "$(grep -c "this run can't" "$work/told")" = 1 ]
-    check "$line of $1 is told again in the end" [ "$(sed -n 3p "$work/errors")" = "pdb_cli: $sentence" ]
-    tail -n 1 "$work/told" >"$work/errors"
-    check "$line of $1 is the answer" wrote 1 "${lines[@]}" "$line"
-}
-goal_of_4='0 1 2 3 4 5 6 7 8 9 10 11 12 13 14 15'
-echo "$goal_of_4" >korf_board
-echo "$goal_of_4 ;" >korf_puzzle
-echo '0 2 1 3 4 5 6 7 8 9 10 11 12 13 14 15' >korf_unsolvable
-printf 'set 0\nset 1 0\n' >korf_bad_line
-head -c 30 F12 >korf_cut
-a_line='isn'\''t `set` and ascending numbers of tables, one space before each, with a line end and no CR'
-told_ahead "korf_bad_line: line 1 $a_line" 'refused S1 at line 1' 'korf_9826 leaf' bound korf_board korf_bad_line leaf korf_9826
-told_ahead "korf_bad_line: line 1 $a_line" 'refused S1 at line 1' korf_9826 solve korf_board korf_bad_line made korf_9826
-told_ahead "korf_bad_line: line 1 $a_line" 'refused S1 at line 1' 'korf_9826 korf_board' prove korf_board korf_bad_line korf_9826
-told_ahead "korf_sets: line 0 names a table that isn't there: they are numbered from 0" 'refused S2 at line 0' 'korf_9826 leaf' \
-    optimal korf_puzzle korf_sets leaf korf_9826 --workers 4
-told_ahead 'pair: line 0 has two tables with a tile in common' 'refused S3 at line 0' 'korf_9826 korf_9826 leaf' \
-    bound korf_board pair leaf korf_9826 korf_9826 --workers 4
-told_ahead 'F12: table 1 is of another side than table 0' 'refused S4 at table 1' 'korf_9826 F12 leaf' \
-    bound korf_board pair leaf korf_9826 F12 --workers 4
-told_ahead 'korf_cut: the file is shorter or longer than its header says' 'refused T6 of table 1' 'korf_9826 korf_cut' \
-    solve korf_board pair made korf_9826 korf_cut --workers 4 --fold
-told_ahead 'F12: a log file begins with `PDBL`, a version, a side and a number of lemmas. It begins as a table does: is a word left out before it?' \
-    'refused L1' 'korf_9826 F12' bound korf_board one_set F12 korf_9826 --workers 4
-told_ahead "leaf: board, tables and log aren't all of one side" 'refused L4' 'korf_9826 leaf' bound korf_board one_set leaf korf_9826 --workers 4
-told_ahead 'korf_unsolvable: the board has no solution, or none of fewer than 255 moves' 'refused K2' korf_9826 \
-    solve korf_unsolvable one_set made korf_9826 --workers 4
-told_ahead 'claims: the board of line 0 is of another side than the tables' 'refused Q2 at line 0' 'korf_9826 claims' \
-    prove claims one_set korf_9826 --workers 4
-digest=$(sha256sum <korf_9826)
-claims_digest=$(sha256sum <korf_board)
-expect 'nothing is told of a good run over large tables' 0 "sha256 ${digest%% *}" "sha256 ${claims_digest%% *}" "optimal 0 of $goal_of_4 ;" : \
-    prove korf_board one_set korf_9826 --workers 4
-expect 'nothing is told ahead of a set text in a pipe' 1 "sha256 ${digest%% *}" 'refused S1 at line 1' : \
-    solve korf_board <(cat korf_bad_line) made korf_9826 --workers 4
-status=0
-"$bare" solve korf_board /dev/stdin made korf_9826 --workers 4 < <(cat korf_bad_line) >"$work/output" 2>"$work/errors" || status=$?
-check 'nothing is told ahead of a set text on standard input' wrote 1 "sha256 ${digest%% *}" 'refused S1 at line 1'
 rm korf_*
 "$root/tools/claims/make_results.py" >"$work/output" 2>"$work/errors"
 check 'docs/RESULTS.md says what docs/results has' cmp -s "$work/output" "$root/docs/RESULTS.md"
@@ -1126,25 +1042,19 @@ check 'docs/RESULTS.md says what docs/results has' cmp -s "$work/output" "$root/
 # The tour.
 #
 
-status=0
-"$root/tools/checks/check_tour.sh" "$bare" >"$work/output" 2>"$work/errors" || status=$?
-check 'the commands of the pages write what these say' [ "$status" = 0 ]
+passes 'the commands of the pages write what these say' check_tour.sh "$bare"
 
 #
 # What has to be believed.
 #
 
-status=0
-"$root/tools/checks/check_believe.py" >"$work/output" 2>"$work/errors" || status=$?
-check 'the page of what has to be believed counts and quotes what is there' [ "$status" = 0 ]
+passes 'the page of what has to be believed counts and quotes what is there' check_believe.py
 
 #
 # The examples of the crates' pages.
 #
 
-status=0
-"$root/tools/checks/check_examples.py" >"$work/output" 2>"$work/errors" || status=$?
-check 'each example of a page stands among the tests' [ "$status" = 0 ]
+passes 'each example of a page stands among the tests' check_examples.py
 
 #
 # Tables and logs that are made.
@@ -1245,11 +1155,6 @@ names_before=$(names_of)
 either_way 1 'refused K2' F123 : solve unsolvable_board one_set made F123
 either_way 1 'refused L4' F24 : solve solved_board one_set made F24
 either_way 1 'refused K1' F12 : solve board one_set made F12 --budget 1
-# The proved search has ended below 1 and below 3.
-spent="the budget of boards is spent: \`--budget N\` allows more"
-run solve board one_set made F12 --budget 1
-check 'a spent budget has the bound that was reached' \
-    [ "$(cat "$work/errors")" = "pdb_cli: $spent. The searches that ended found no solution of fewer than 3 moves" ]
 either_way 1 'refused K2' F12 : solve folded_board one_set made F12
 either_way 1 'refused B5 at number 3' F123 F12 : solve no_board one_set made F123 F12
 either_way 1 'refused T7 at entry 0 of table 0' F12_with_FE F123 : solve board one_set made F12_with_FE F123
@@ -1556,24 +1461,12 @@ for words in '' '--budget 1000000'; do
     # shellcheck disable=SC2086
     expect "solve far_board $words" 1 "sha256 ${digest%% *}" 'refused K1' : solve far_board one_set made three_of_side_3 $words
 done
-# The sentence of the last claim has a bound that is a yes within the same budget.
-run prove far_board one_set three_of_side_3 --budget 100000
-check 'a spent budget of the last claim has the bound that was reached' grep -qx \
-    "pdb_cli: the last claim: $spent. The searches that ended found no solution of fewer than [0-9]* moves" "$work/errors"
-bound=$(sed 's/.* fewer than \([0-9]*\) moves$/\1/' "$work/errors")
-echo "$(cat far_board) : $bound" >far_claim
-run prove far_claim one_set three_of_side_3 --budget 100000
-check 'this bound holds' [ "$status.$(tail -n 1 "$work/output")" = "0.bound $bound of $(cat far_board)" ]
 
-# The sizes that users have. Its own checks count too.
-status=0
-"$root/tools/checks/check_sizes.sh" "$bare" >"$work/output" 2>"$work/errors" || status=$?
-grep '^FAILED' "$work/output"
-check 'tables, claims and logs at the sizes that users have' [ "$status" = 0 ]
-if [[ $(tail -n 1 "$work/output") =~ ^([0-9]+)\ passed,\ ([0-9]+)\ failed$ ]]; then
-    passed=$((passed + BASH_REMATCH[1]))
-    failed=$((failed + BASH_REMATCH[2]))
-fi
+passes 'each sentence is told whole and alone' check_errors.sh "$bare"
+passes 'OUT, memory and inputs at their limits' check_limits.sh "$bare"
+passes 'tables, claims and logs at the sizes that users have' check_sizes.sh "$bare"
+passes 'no more is done for an answer than the pages say' check_work.sh "$bare"
+passes 'these checks fail where the program is spoiled' check_canary.sh "$bare"
 
 #
 # Logs of many lemmas.

@@ -27,11 +27,6 @@ if [ -n "${PLAIN-}" ]; then
     done
 fi
 
-# A copy of the file $1, in its place, whose byte $2 is $3.
-change() {
-    printf '%b' "\\x$3" | dd of="$1" bs=1 seek="$2" conv=notrunc status=none
-}
-
 #
 # Tables.
 #
@@ -54,6 +49,7 @@ for workers in 1 4; do
         >"$work/output" 2>"$work/told" || status=$?
     : >"$work/errors"
     check "a table of $blocks blocks by $workers workers" wrote 0 "sha256 ${digests[4_254]}" "${lines[4_254]}"
+    check "$workers workers tell how far they are" [ -s "$work/told" ]
     check "$workers workers tell no line too many" [ "$(wc -l <"$work/told")" -le "$(wc -l <"$work/progress")" ]
     check "$workers workers tell lines of progress alone" [ -z "$(grep -Evx "pdb_cli: seven, 1 of 1: (100|[1-9]?[0-9]) percent of $blocks blocks or lemmas begun" "$work/told")" ]
     [ "$workers" != 1 ] || check 'all shares that one worker tells' cmp -s "$work/told" "$work/progress"
@@ -156,7 +152,7 @@ for sets in 9 16; do
     gives_up 4 "none_of_$sets" "$six_six_three" --budget 2000000
 done
 
-# Over nine tables `prove` makes edge words beside the tables, for sums of three, of five and of one of them.
+# Over nine tables `prove` has no edge words: it asks the sums of all, of three, of five and of one of them.
 nine_tables=$three_of_five
 for mask in 14 112 896 7168 57344 4368; do
     "$bare" make-table 4 "$mask" "tiles_$mask" >/dev/null
@@ -205,18 +201,8 @@ done
 # Threads and syncs.
 #
 
-cc -O1 -shared -fPIC -o "$work/hold_threads.so" "$root/tools/preload/hold_threads.c" || exit 2
-cc -O1 -shared -fPIC -o "$work/count_calls.so" "$root/tools/preload/count_calls.c" || exit 2
-
-# A run with the words behind $2 must have $1 threads at work at once in one stage, and end with the line $2: held THREADS LINE WORD..
-held() {
-    local threads=$1 line=$2
-    shift 2
-    status=0
-    (export PDB_PROGRESS=1 THREADS=$threads LD_PRELOAD=$work/hold_threads.so && exec "$bare" "$@") \
-        >"$work/output" 2>"$work/errors" 9>"$work/held" || status=$?
-    check "$threads workers at once: $*" [ "$status.$(tail -n 1 "$work/output").$(wc -c <"$work/held")" = "0.$line.$threads" ]
-}
+make_preload hold_threads
+make_preload count_calls
 
 # A table of one block, which one worker takes, and 64 lemmas of one leaf each.
 python3 - >lemmas <<'END'

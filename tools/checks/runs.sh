@@ -33,11 +33,11 @@ run() {
     "$program" "$@" <"$input" >"$work/output" 2>"$work/errors" || status=$?
 }
 
-# Counts a check, whose name is $1, by the status of the words behind it.
+# Counts a check, whose name is $1, by the status of the words behind it. Without any it fails.
 check() {
     local name=$1
     shift
-    if "$@"; then
+    if [ "$#" != 0 ] && "$@"; then
         passed=$((passed + 1))
         return
     fi
@@ -83,4 +83,59 @@ table() {
     local digest
     digest=$(sha256sum <"$1")
     expect "table $1 ${*:4}" "$2" "sha256 ${digest%% *}" "$3" : table "$1" "${@:4}"
+}
+
+# Whether the run ended with this line and the status that goes with it, and standard error has these lines behind `pdb_cli: ` and
+# nothing else: told_whole LINE SENTENCE..
+told_whole() {
+    local line=$1 wanted=0
+    shift
+    case $line in
+    refused* | [0-9]*) wanted=1 ;;
+    fault*) wanted=2 ;;
+    'no memory') wanted=3 ;;
+    esac
+    [ "$status" = "$wanted" ] && [ "$(tail -n 1 "$work/output")" = "$line" ] &&
+        { [ "$#" = 0 ] || printf 'pdb_cli: %s\n' "$@"; } | cmp -s - "$work/errors"
+}
+
+# A run must be told so: says LINE WORDS SENTENCE.. The words have spaces between them; where the first is `<NAME`, that file is the
+# standard input.
+says() {
+    local line=$1 words=()
+    read -ra words <<<"$2"
+    shift 2
+    if [[ ${words[0]} == '<'* ]]; then
+        input=${words[0]#<}
+        words=("${words[@]:1}")
+    fi
+    run "${words[@]}"
+    input=/dev/null
+    check "all that ${words[*]} tells" told_whole "$line" "$@"
+}
+
+# The byte $2 of the file $1 becomes $3, in hexadecimal.
+change() {
+    printf '%b' "\\x$3" | dd of="$1" bs=1 seek="$2" conv=notrunc status=none
+}
+
+# Makes the library that is preloaded under this name.
+make_preload() {
+    cc -O1 -shared -fPIC -o "$work/$1.so" "$root/tools/preload/$1.c" || exit 2
+}
+
+# Runs the program with the words behind $1 while threads are held until $1 of them are at work at once, and sets `most` to the most
+# that ever were.
+hold() {
+    status=0
+    (export PDB_PROGRESS=1 THREADS=$1 LD_PRELOAD=$work/hold_threads.so && exec "$bare" "${@:2}") \
+        >"$work/output" 2>"$work/errors" 9>"$work/held" || status=$?
+    most=$(wc -c <"$work/held")
+}
+
+# A run with the words behind $2 must have $1 threads at work at once in one stage, and end with the line $2, a yes:
+# held THREADS LINE WORD..
+held() {
+    hold "$1" "${@:3}"
+    check "$1 workers at once: ${*:3}" [ "$status.$(tail -n 1 "$work/output").$most" = "0.$2.$1" ]
 }

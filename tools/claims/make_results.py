@@ -21,15 +21,11 @@ ROOT = pathlib.Path(__file__).resolve().parents[2]
 INTRODUCTION = """\
 # Boards of the literature
 
-Each board here has a solution of so many moves, and none of fewer. `prove` says so, and that it says so only where it is true is [proved](../README.md#what-is-proved). You need not believe who made the tables or these files: the run that answers checks the tables too, and you can run it yourself. [BELIEVE](BELIEVE.md) says what is left to believe.
+Each board here has a solution of so many moves, and none of fewer. `prove` says so, and that it says so only where it is true is [proved](../README.md#what-is-proved). The run that answers checks the tables too, whoever made them.
 
 The boards, and the lengths that the papers are said to give, were written down without the papers at hand. That `prove` finds just these lengths speaks for them; compare a board with its paper before you cite it as the paper's.
 
-The blank is first in the goal board. To look at a solution, move by move:
-
-```
-tools/claims/show_solution.py docs/results/korf_1985.answers --svg solutions.svg
-```
+The blank is first in the goal board. `tools/claims/show_solution.py` shows the solutions of answers, move by move.
 """
 KORF = """\
 ## The 15-puzzle: Korf's hundred boards

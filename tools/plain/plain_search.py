@@ -2,10 +2,13 @@
 """Counts how many boards a search for a shortest solution expands, by iterative deepening (Korf 1985) over the sets of tables,
 read off docs/FORMATS.md. Nothing of the program is used.
 
-    tools/plain/plain_search.py [--fold] BOARD SETS TABLES..
+    tools/plain/plain_search.py [--fold] [--strings FILE] [--below N | --each] BOARD SETS TABLES..
 
 The files are those of `solve`. What is written is the number of moves of a shortest solution, and the number of boards whose
-moves were generated until it was found: the least budget that suffices. A board that has no solution is searched for ever.
+moves were generated until it was found: the least budget that suffices. With --each a line as `below 21: 769` is written for
+each search in place of that: a search for a solution of fewer than 21 moves expanded so many. With --below there is one, for
+this bound. With --strings moves that complete a string of FILE are left out, and not those alone that take a move back. A
+board that has no solution is searched for ever.
 """
 
 import argparse
@@ -52,26 +55,39 @@ class Search:
                 self.exceeds = min(self.exceeds, says - (left - 1))
         return False
 
-    def least_moves(self, board):
-        """The number of moves of a shortest solution."""
-        threshold = self.says(board)
-        if board == goal(side_of(board)):
-            return 0
-        while True:
-            self.exceeds = float("inf")
-            if self.solves(board, threshold):
-                return threshold
+    def searches(self, board):
+        """The thresholds up to the number of moves of a shortest solution, each with how many boards its search expands."""
+        threshold, is_solved = self.says(board), board == goal(side_of(board))
+        if is_solved:
+            yield 0, 0
+        while not is_solved:
+            self.exceeds, before = float("inf"), self.expanded
+            is_solved = self.solves(board, threshold)
+            yield threshold, self.expanded - before
             threshold += self.exceeds
 
 
 def main():
     parser = argparse.ArgumentParser(description=__doc__.partition("\n\n")[0])
     parser.add_argument("--fold", action="store_true")
+    parser.add_argument("--strings", type=pathlib.Path)
+    parser.add_argument("--below", type=int)
+    parser.add_argument("--each", action="store_true")
     parser.add_argument("names", nargs="+", type=pathlib.Path, metavar="BOARD SETS TABLES..")
     words = parser.parse_args()
     board, sets, *files = (name.read_bytes() for name in words.names)
-    search = Search(read_sets(sets, read_tables(files, words.fold)))
-    print(search.least_moves(read_board(board)), search.expanded)
+    strings = words.strings.read_text().split() if words.strings else REVERSALS
+    search, board = Search(read_sets(sets, read_tables(files, words.fold)), strings), read_board(board)
+    if words.below:
+        search.exceeds = float("inf")
+        search.solves(board, words.below - 1)
+        print(f"below {words.below}: {search.expanded}")
+        return
+    for threshold, expanded in search.searches(board):
+        if words.each:
+            print(f"below {threshold + 1}: {expanded}")
+    if not words.each:
+        print(threshold, search.expanded)
 
 
 if __name__ == "__main__":
