@@ -29,10 +29,10 @@ told_help() {
     [ "$status" = 0 ] && [ ! -s "$work/errors" ] && grep -q '^Usage: pdb_cli' "$work/output"
 }
 
-# Whether the run told the version, by the launcher below the digest of what it was built of.
+# Whether the run told the version, by the launcher below where the program was proved and of which sources.
 told_the_version() {
-    [ "$status" = 0 ] && [ ! -s "$work/errors" ] &&
-        [ "$(grep -Evx 'sources and kit [0-9a-f]{64}' "$work/output")" = 'pdb_cli 0.2.0' ]
+    local above='proved (here|where it was released), with the kit [0-9a-f]{64} .+|sources [0-9a-f]{64}'
+    [ "$status" = 0 ] && [ ! -s "$work/errors" ] && [ "$(grep -Evx "$above" "$work/output")" = 'pdb_cli 0.2.0' ]
 }
 
 # The same of a puzzle text, once as a file and once on standard input: puzzle TEXT STATUS LINE
@@ -142,7 +142,7 @@ expect 'a name of more than one byte a letter' 2 'fault read né →' : replay '
 # Words.
 #
 
-for words in --help -h help 'help replay' 'help table' 'help bound' 'help optimal' 'help help' 'replay --help' 'table -h' \
+for words in --help '--help -V' -h help 'help replay' 'help table' 'help bound' 'help optimal' 'help help' 'replay --help' 'table -h' \
     'bound --help' 'optimal b s l t -h' 'optimal b s --help t' 'help make-table' 'make-table -h' 'help solve' 'solve --help' \
     'help prove' 'prove --help' 'prove c s t -h' 'help parts' 'parts -h' 'parts b 6 3 a --help'; do
     # shellcheck disable=SC2086
@@ -947,7 +947,7 @@ for workers in 1 4; do
     [ "$workers" != 1 ] || check 'all shares that one worker tells' cmp -s "$work/errors" "$work/progress"
     check "$workers workers tell shares alone" told_shares_alone
 done
-for value in '' 0 11 yes; do
+for value in '' 0 11 yes '1 ' ' 1'; do
     status=0
     (export PDB_PROGRESS=$value LD_PRELOAD=$work/step_clock.so && exec "$bare" table all_of_side_3) \
         >"$work/output" 2>"$work/errors" || status=$?

@@ -137,9 +137,15 @@ gives_up() {
 solved 4 56 with_mirror "$six_six_three"
 solved 29 54 with_mirror "$six_six_three" --workers 2
 solved 2 55 with_mirror "$six_six_three"
+mv made made_before
+solved 2 55 with_mirror "$six_six_three" --workers 4
+check 'the log is the same once more, by four workers' cmp -s made made_before
+rm made_before
 solved 17 66 with_mirror "$six_six_three" --budget 100000000
 solved 88 65 one_set "$three_of_five" --budget 1000000000
 check 'the log of board 88 has more than 40 megabytes' [ "$(stat -c %s made)" -gt 40000000 ]
+lemmas=$(od -An -tu4 --endian=big -j 6 -N 4 made)
+check 'and at most a lemma for each 500 bytes' [ "$((lemmas > 1000 && 500 * lemmas <= $(stat -c %s made)))" = 1 ]
 solved 42 42 one_set "$three_of_five" --budget 4294967296
 solved 10 59 one_set "$three_of_five" --fold --budget 2000000
 gives_up 10 one_set "$three_of_five" --fold --budget 1000000
