@@ -1,14 +1,19 @@
--- The first claim of another side.
-use Rattle.std.proofs.Common.{◌≡◌, ◌≢◌, ◌==◌, ◌∙◌, not, true, ◌+◌, ◌<◌, ℕ, zero, suc, List, [], ◌∷◌, ◌++◌, ap, arith, drop, get_or, length, map}
-use Rattle.std.proofs.Common.{subst, sym, take, take-append-drop}
+-- The first claim of another side, and the automaton of reversals.
+use Rattle.std.proofs.Common.{◌≡◌, ◌≢◌, ◌==◌, ◌∙◌, not, true, ◌+◌, ◌*◌, ◌<◌, ℕ, zero, suc, List, [], ◌∷◌, ◌++◌, ap, arith, drop, get_or, length, map}
+use Rattle.std.proofs.Common.{refl, subst, sym, take, take-append-drop}
 use Rattle.std.specs.List.{All, AllByRecursion}
 use Rattle.std.proofs.lemmas.Grind.{common_steps}
 use Rattle.std.proofs.lemmas.List.{drop_more, map-append, take_more}
 use Rattle.puz_board.specs.Boards.{side_of}
+use Rattle.puz_board.specs.declared.moves.Move.{Move}
+use Rattle.puz_board.specs.declared.moves.Move.TheVariants.{Up, Down, Left, Right}
+use Rattle.move_strings.specs.Automata.{IsState, reversal_steps}
+use Rattle.puz_search.specs.Guides.{LeavesOutReturn}
 use Rattle.claim_text.specs.Claims.{ShownClaim}
 use Rattle.claim_text.specs.Shown.{claim_shown}
 use Rattle.claim_text.specs.declared.claims.Claim.{Claim}
 use Rattle.pdb_prove.specs.Prove.{IsFirstOfAnotherSide}
+use Rattle.pdb_prove.specs.Steps.{PrunesFor}
 
 -- the boards of these claims have this side
 abbrev pub HaveSide : ℕ → List ShownClaim → Type 0
@@ -54,3 +59,23 @@ pub each_side : (side : ℕ) (claims : List Claim) → HaveSide side (map claim_
 each_side side [] all k d low = absurd (omega (arith, low))
 each_side side (claim ∷ claims) all zero d low = all.0
 each_side side (claim ∷ claims) all (suc k) d low = each_side side claims all.1 k d (omega (arith, low))
+
+-- what holds of four moves holds of each
+of_each : (P : Move → Type 0) → P Up → P Down → P Left → P Right → (move : Move) → P move
+of_each P up down left right Up = up
+of_each P up down left right Down = down
+of_each P up down left right Left = left
+of_each P up down left right Right = right
+
+after_reversals : (state : ℕ) → IsState reversal_steps state → (move : Move) → LeavesOutReturn reversal_steps state move
+after_reversals zero is = of_each (LeavesOutReturn reversal_steps 0) (λ on. refl) (λ on. refl) (λ on. refl) (λ on. refl)
+after_reversals (suc zero) is = of_each (LeavesOutReturn reversal_steps 1) (λ on. refl) (λ on. absurd (on refl)) (λ on. refl) (λ on. refl)
+after_reversals (suc (suc zero)) is = of_each (LeavesOutReturn reversal_steps 2) (λ on. absurd (on refl)) (λ on. refl) (λ on. refl) (λ on. refl)
+after_reversals (suc (suc (suc zero))) is = of_each (LeavesOutReturn reversal_steps 3) (λ on. refl) (λ on. refl) (λ on. refl) (λ on. absurd (on refl))
+after_reversals (suc (suc (suc (suc zero)))) is =
+    of_each (LeavesOutReturn reversal_steps 4) (λ on. refl) (λ on. refl) (λ on. absurd (on refl)) (λ on. refl)
+after_reversals (suc (suc (suc (suc (suc n))))) is = let low : 4 * suc (suc (suc (suc (suc n)))) + 0 < 20 = is Up in absurd (omega (arith, low))
+
+-- the automaton of reversals leaves out each move that takes the one before it back
+pub reversals_prune : (side : ℕ) → PrunesFor side (record { side = side; steps = reversal_steps })
+reversals_prune side = (refl, λ state move is. after_reversals state is move)

@@ -49,5 +49,6 @@ found_enough v few budget less claim found settled is = record {
   guide = is.guide;
   is_guide = is.is_guide;
   leads = is.leads;
+  leaves_out = is.leaves_out;
   is_found = soon_enough is.guide few budget less claim.board claim.asks found settled is.is_found;
 }

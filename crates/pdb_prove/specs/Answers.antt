@@ -11,7 +11,7 @@ use Rattle.claim_text.specs.Lines.{Told}
 use Rattle.puz_make.specs.Solvable.{HasTheBlanksParity}
 use Rattle.move_strings.specs.BoundParts.{ShownPart}
 use Rattle.puz_search.specs.Answers.{IsAnswer, IsAnswerOfPart, IsDeepened}
-use Rattle.puz_search.specs.Guides.{IsGuide, ShownGuide}
+use Rattle.puz_search.specs.Guides.{IsGuide, LeavesOutReversals, ShownGuide}
 use Rattle.puz_search.specs.declared.answers.SearchAnswer.TheVariants as search
 use Rattle.puz_search.specs.declared.deepening.Deepened.TheVariants as deepened
 use Rattle.byte_io.specs.Shelf.{Bytes}
@@ -81,11 +81,13 @@ module _ (guide : ShownGuide) (budget : ℕ) where
   abbrev pub IsFoundBy : ShownClaim → Finding → Type 0
   IsFoundBy claim found = IsFoundOf claim.board claim.asks found
 
--- for a claim, by a search that this bundle leads, and some automaton for boards of its side
+-- for a claim, by a search that this bundle leads, and some automaton for boards of its side, which leaves out at least each move
+-- that takes the one before it back
 pub record IsFoundFor (v : ShownBundle) (budget : ℕ) (claim : ShownClaim) (found : Finding) : Type 0 where
   pub guide : ShownGuide
   pub is_guide : IsGuide guide
   pub leads : guide.bundle ≡ v
+  pub leaves_out : LeavesOutReversals guide.steps
   pub is_found : IsFoundBy guide budget claim found
 
 -- ---- what is told of it

@@ -29,7 +29,8 @@ pub record ClaimsFiles : Type 0 where
   pub sets : Bytes
   pub tables : List Bytes
 
--- so many boards may be expanded for a claim; where nothing is said of it, as many as a search can count
+-- So many boards may be expanded for a claim. Where nothing is said of it, as many as a search can count: K1 is said then only of a
+-- search that has more than 2^64 - 1 boards.
 abbrev pub budget_of : Option ℕ → ℕ
 budget_of None = 2 ^ 64 - 1
 budget_of (Some budget) = budget

@@ -5,8 +5,10 @@ use Rattle.std.specs.List.{AllZip, sum_by}
 use Rattle.puz_board.specs.MovesTexts.{Solves}
 use Rattle.pat_place.specs.Patterns.{ShownPattern}
 use Rattle.pat_place.specs.Ranks.{falling_factorial}
+use Rattle.move_strings.specs.Automata.{ShownAutomaton}
 use Rattle.set_sum.specs.Bundles.{ShownBundle}
 use Rattle.puz_walk.specs.WordBundles.{most_worded, pattern_at}
+use Rattle.puz_search.specs.Guides.{LeavesOutReversals}
 use Rattle.claim_text.specs.Claims as claims
 use Rattle.claim_text.specs.Claims.{ShownAsks, ShownClaim}
 use Rattle.claim_text.specs.Lines.{Told}
@@ -146,7 +148,11 @@ abbrev pub IsStopped : ℕ → ℕ → ShownBundle → Option Prepared → Type 
 IsStopped told count v None = told ≡ count
 IsStopped told count v (Some prepared) = (told < count) × IsPreparedFor v prepared
 
+-- an automaton for boards of a side that leaves out each move which takes the one before it back
+abbrev pub PrunesFor : ℕ → ShownAutomaton → Type 0
+PrunesFor side automaton = (automaton.side ≡ side) × LeavesOutReversals automaton.steps
+
 -- there is all memory for the words, and an automaton of strings for boards of the side, if there is one
 pub record IsWantedFor (v : ShownBundle) (wanted : Wanted) : Type 0 where
   pub prepared : IsPreparedFor v wanted.prepared
-  pub strings : IfSome wanted.strings (λ strings. strings.side ≡ v.side)
+  pub strings : IfSome wanted.strings (PrunesFor v.side)

@@ -9,7 +9,7 @@ ghost use Rattle.claim_text.specs.declared.claims.Claim.{Claim};
 ghost use Rattle.puz_search.specs.StoredGuides.{bundle_of};
 ghost use Rattle.pdb_prove.specs.Answers.{IsFoundFor};
 ghost use Rattle.pdb_prove.specs.Posed.{ArePosed};
-ghost use Rattle.pdb_prove.specs.Steps.{AreFoundSoon, IsStopped, IsTelling, IsToldOrWanted, IsWantedIf};
+ghost use Rattle.pdb_prove.specs.Steps.{AreFoundSoon, IsStopped, IsTelling, IsToldOrWanted, IsWantedIf, PrunesFor};
 
 use crate::answers::{Finding, answer_soon};
 use crate::help::Help;
@@ -40,7 +40,7 @@ pub(crate) struct Batch<'a> {
     /// The number of the first claim.
     pub(crate) first: u64,
     ghost posed: { ArePosed (bundle_of sets) claims.now starts.now },
-    ghost one_side: { reversals.now.side ≡ (bundle_of sets).side },
+    ghost one_side: { PrunesFor (bundle_of sets).side reversals.now },
 }
 
 impl<'a> Task for Batch<'a> {

@@ -1,19 +1,22 @@
 //! What helps with hard claims.
 
-ghost use Rattle.std.specs.Prelude.{◌≡◌, IfSome, None, false};
+ghost use Rattle.std.specs.Prelude.{◌≡◌, ◌*◌, ◌^◌, ◌<◌, IfSome, IsTrue, None, false, length};
 ghost use Rattle.std.proofs.Props.{props};
 ghost use Rattle.claim_text.specs.Shown.{claim_shown};
+ghost use Rattle.move_strings.specs.Automata.{IsState};
+ghost use Rattle.puz_board.specs.declared.moves.Move.{Move};
+ghost use Rattle.puz_search.specs.Guides.{LeavesOutReturn, LeavesOutReversals};
 ghost use Rattle.puz_search.specs.StoredGuides.{bundle_of};
 ghost use Rattle.pdb_prove.specs.Answers.{IsFoundFor};
 ghost use Rattle.pdb_prove.specs.Posed.{IsPosed};
-ghost use Rattle.pdb_prove.specs.Steps.{IsPreparedFor, IsWantedIf};
+ghost use Rattle.pdb_prove.specs.Steps.{IsPreparedFor, IsWantedIf, PrunesFor};
 
 use crate::answers::{FEW_BOARDS, Finding, answer_by};
 use crate::counts::Counting;
 use crate::posed::Posed;
 use crate::prepared::{Prepared, prepare, wordable};
 use move_strings::Automaton;
-use puz_board::Side;
+use puz_board::{Move, Side};
 use puz_search::{Guide, Sets};
 use puz_walk::WordBundle;
 use set_sum::Bundle;
@@ -44,8 +47,8 @@ pub(crate) struct Help<'a> {
     before_words: Option<u64>,
     /// The memory for words, once they are wanted, where there is any.
     pub(crate) prepared: Option<Prepared>,
-    ghost one_side: { reversals.now.side ≡ (bundle_of sets).side },
-    ghost same_side: { IfSome strings (λ automaton. automaton.side ≡ (bundle_of sets).side) } by { Prim.hlevel props },
+    ghost one_side: { PrunesFor (bundle_of sets).side reversals.now },
+    ghost same_side: { IfSome strings (PrunesFor (bundle_of sets).side) } by { Prim.hlevel props },
 }
 
 impl<'a> Help<'a> {
@@ -55,7 +58,7 @@ impl<'a> Help<'a> {
         reversals: &'a Automaton,
         may_want_words: bool,
     ) -> Help<'a>
-        requires { reversals.now.side ≡ bundle.now.side }
+        requires { PrunesFor bundle.now.side reversals.now }
         ensures sets { bundle_of result.sets ≡ bundle.now }
         ensures unprepared { result.prepared ≡ None }
         ensures goes_on { may_want_words ≡ false → result.before_words ≡ None }
@@ -81,8 +84,8 @@ impl<'a> Help<'a> {
         reversals: &'a Automaton,
         strings: Option<Automaton>,
     ) -> Help<'a>
-        requires reversals { reversals.now.side ≡ words.now.side }
-        requires strings { IfSome strings (λ automaton. automaton.side ≡ words.now.side) }
+        requires reversals { PrunesFor words.now.side reversals.now }
+        requires strings { IfSome strings (PrunesFor words.now.side) }
         ensures sets { bundle_of result.sets ≡ words.now }
         ensures unprepared { result.prepared ≡ None }
         ensures goes_on { result.before_words ≡ None }
@@ -186,10 +189,52 @@ impl<'a> Help<'a> {
     }
 }
 
-/// The automaton of strings for boards of a side, where there is memory for it.
+/// The automaton of strings for boards of a side, where there is memory for it. One that doesn't leave out each move which takes the
+/// one before it back isn't used: a search would expand more boards with it than with the automaton of reversals.
 fn strings_for(alloc: Global, side: Side) -> Option<Automaton>
-    ensures { IfSome result (λ automaton. automaton.side ≡ side) }
+    ensures { IfSome result (PrunesFor side) }
 {
     let draft = draft_of(alloc, LONGEST).ok()?;
-    Automaton::check(alloc, side, &draft).ok()?
+    let strings = Automaton::check(alloc, side, &draft).ok()??;
+    if leaves_out_reversals(&strings, draft.labels.len()) {
+        Some(strings)
+    } else {
+        None
+    }
+}
+
+/// Whether an automaton with so many states leaves out, after a move from any of them, the one that takes it back.
+fn leaves_out_reversals(automaton: &Automaton, states: usize) -> bool
+    requires all { length automaton.now.steps ≡ 4 * states }
+    requires few { states < 2 ^ 32 }
+    ensures { IsTrue result → LeavesOutReversals automaton.now.steps }
+{
+    for state in 0..states {
+        if !leaves_out_returns(automaton, state as u32) {
+            return false;
+        }
+    }
+    true
+}
+
+/// Whether it does so after each move from a state.
+fn leaves_out_returns(automaton: &Automaton, state: u32) -> bool
+    requires { IsState automaton.now.steps state }
+    ensures { IsTrue result → (mv : Move) → LeavesOutReturn automaton.now.steps state mv }
+{
+    leaves_out_return(automaton, state, Move::Up)
+        && leaves_out_return(automaton, state, Move::Down)
+        && leaves_out_return(automaton, state, Move::Left)
+        && leaves_out_return(automaton, state, Move::Right)
+}
+
+/// Whether it does so after this move.
+fn leaves_out_return(automaton: &Automaton, state: u32, mv: Move) -> bool
+    requires { IsState automaton.now.steps state }
+    ensures { IsTrue result → LeavesOutReturn automaton.now.steps state mv }
+{
+    match automaton.next(state, mv) {
+        Some(next) => automaton.next(next, mv.reverse()).is_none(),
+        None => true,
+    }
 }

@@ -8,7 +8,7 @@ ghost use Rattle.claim_text.specs.Texts.{AreClaims};
 ghost use Rattle.pdb_verdict.specs.FileBundles.{IsReadBundle};
 ghost use Rattle.pdb_prove.specs.Prove.{AreReady, ClaimsFiles, IsFirstOfAnotherSide};
 ghost use Rattle.pdb_prove.specs.Posed.{ArePosed};
-ghost use Rattle.pdb_prove.specs.Steps.{IsCauseForClaims, of_claims};
+ghost use Rattle.pdb_prove.specs.Steps.{IsCauseForClaims, PrunesFor, of_claims};
 
 use crate::posed::starts_over;
 use claim_text::{Claim, ClaimsFault, MOST_CLAIMS};
@@ -27,7 +27,7 @@ pub(crate) struct Ready<'b, 'c> {
     pub(crate) bundle: Bundle<'b>,
     pub(crate) reversals: Automaton,
     ghost posed: { ArePosed bundle claims.items starts.items },
-    ghost one_side: { reversals.side ≡ bundle.side },
+    ghost one_side: { PrunesFor bundle.side reversals },
 }
 
 /// Why nothing is searched, where a text gives no claims.

@@ -16,7 +16,7 @@ ghost use Rattle.pdb_run.specs.Writing.{digests_of};
 ghost use Rattle.pdb_verdict.specs.FileBundles.{IsBundleOfFiles};
 ghost use Rattle.pdb_prove.specs.Posed.{ArePosed};
 ghost use Rattle.pdb_prove.specs.Prove.{AreReady, ClaimsFiles, ProveEnds, budget_of, digested_files, in_order, prove_inputs};
-ghost use Rattle.pdb_prove.specs.Steps.{AreCut, AreTold, IsCauseForClaims, IsPreparedFor, IsToldTo, IsWantedFor, files_of};
+ghost use Rattle.pdb_prove.specs.Steps.{AreCut, AreTold, IsCauseForClaims, IsPreparedFor, IsToldTo, IsWantedFor, PrunesFor, files_of};
 
 use crate::batches::{Asked, Telling, tell_claims};
 use crate::help::Help;
@@ -136,7 +136,7 @@ fn without_bundle<'c>(ready: Ready<'_, 'c>) -> (Vec<Claim<'c>>, Vec<Start>, Auto
     ensures starts { result.1 ≡ ready.entry.starts }
     ensures reversals { result.2 ≡ ready.entry.reversals }
     ensures posed { ArePosed ready.entry.bundle ready.entry.claims.items ready.entry.starts.items }
-    ensures side { ready.entry.reversals.side ≡ ready.entry.bundle.side }
+    ensures prunes { PrunesFor ready.entry.bundle.side ready.entry.reversals }
 {
     (ready.claims, ready.starts, ready.reversals)
 }
@@ -234,9 +234,8 @@ fn tell_over_words<H: Threads + Sync, G: Gate + Sync, I: Io>(
     requires few { All (λ claim. HasFewLetters (claim_shown claim)) asked.claims.now }
     requires posed { ArePosed worded.outline.value asked.claims.now asked.starts.now }
     requires words { HaveWords worded.outline.value worded.words.items }
-    requires reversals { reversals.now.side ≡ worded.outline.value.side }
-    requires strings { IfSome worded.strings
-        (λ strings. strings.side ≡ worded.outline.value.side) }
+    requires reversals { PrunesFor worded.outline.value.side reversals.now }
+    requires strings { IfSome worded.strings (PrunesFor worded.outline.value.side) }
     ensures same_streams { I.streams io.new ≡ I.streams io.old }
     ensures told { let shown = map claim_shown asked.entry.claims.now in
         AreTold worded.outline.value asked.entry.budget shown

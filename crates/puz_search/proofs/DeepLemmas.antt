@@ -1,5 +1,5 @@
 -- Bounds of one parity: all solutions of a board have it.
-use Rattle.std.proofs.Common.{◌≡◌, ℕ, zero, suc, ◌+◌, ◌-◌, ◌*◌, ◌%◌, ◌<◌, ◌≤◌, List, length, refl, subst, arith}
+use Rattle.std.proofs.Common.{◌≡◌, ℕ, suc, ◌+◌, ◌-◌, ◌*◌, ◌%◌, ◌<◌, ◌≤◌, List, length, refl, subst, arith}
 use Rattle.puz_board.specs.Boards.{IsBoardOf}
 use Rattle.puz_board.specs.MovesTexts.{Solves}
 use Rattle.puz_board.specs.Parity.{blank_parity}
@@ -7,9 +7,8 @@ use Rattle.puz_board.proofs.ParityLemmas.{solution_parity}
 use Rattle.set_sum.specs.Bounds.{IsBounded}
 use Rattle.puz_search.specs.Answers.{IsDeepened, IsShorter}
 use Rattle.puz_search.specs.Guides.{ShownGuide}
-use Rattle.puz_search.specs.Searches.{Fails, FailsInTurn}
+use Rattle.puz_search.specs.Searches.{Fails, FailsInTurn, HasBoards}
 use Rattle.puz_search.specs.declared.deepening.Deepened.TheVariants.{Beyond, Spent}
-use Rattle.puz_search.proofs.FailLemmas.{fails_once, once_both}
 
 module _ (n : ℕ) (b : List ℕ) (good : IsBoardOf n b) where
   -- no solution of a board has fewer moves than the parity of its blank
@@ -44,12 +43,6 @@ pub record IsDeep (g : ShownGuide) (b : List ℕ) (budget left bound : ℕ) : Ty
   pub fails : FailsInTurn g b thresholds spent
   pub sum : spent + left ≡ budget
 
--- they fail with one count
-turn_once : (g : ShownGuide) (b : List ℕ) (k m n : ℕ) → FailsInTurn g b k m → FailsInTurn g b k n → m ≡ n
-turn_once g b zero m n h j = omega arith
-turn_once g b (suc k) m n h j = once_both (FailsInTurn g b k) (Fails g (blank_parity b + 2 * k + 1) b 0) (turn_once g b k)
-    (fails_once g (blank_parity b + 2 * k + 1) b 0) m n h j
-
 module _ (g : ShownGuide) (b : List ℕ) (good : IsBoardOf g.bundle.side b) (budget : ℕ) where
   -- with the blank's parity as bound, no threshold has been searched yet, and the whole budget is left
   pub deep_first : (bound : ℕ) → bound ≡ blank_parity b → bound ≤ 1 → IsDeep g b budget budget bound
@@ -81,28 +74,15 @@ module _ (g : ShownGuide) (b : List ℕ) (good : IsBoardOf g.bundle.side b) (bud
       }
 
   -- where the budget ended below a threshold
-  pub deep_spent : (left bound : ℕ) → IsDeep g b budget left bound → ((boards : ℕ) → Fails g (bound + 1) b 0 boards → left < boards)
+  pub deep_spent : (left bound : ℕ) → IsDeep g b budget left bound → (boards : ℕ) × HasBoards g (bound + 1) b 0 boards × (left < boards)
       → IsDeepened g b budget (Spent bound)
   deep_spent left bound is more =
       let reached : bound ≡ blank_parity b + 2 * is.thresholds = is.reached in
-      let same : blank_parity b + 2 * is.thresholds + 1 ≡ bound + 1 = omega arith in
-      let next : is.thresholds + 1 ≡ suc is.thresholds = omega arith in
-      let sum : is.spent + left ≡ budget = is.sum in (
-        is.bounds,
-        (
-          is.thresholds,
-          is.reached,
-          (
-            (is.spent, is.fails, omega arith),
-            λ boards h.
-                let both = subst (λ k. FailsInTurn g b k boards) next h in
-                let whole : boards ≡ both.0 + both.1 = both.4 in
-                let before : is.spent ≡ both.0 = turn_once g b is.thresholds is.spent both.0 is.fails both.2 in
-                let here : left < both.1 = more both.1 (subst (λ r. Fails g r b 0 both.1) same both.3) in
-                omega arith,
-          ),
-        ),
-      )
+      let same : bound + 1 ≡ blank_parity b + 2 * is.thresholds + 1 = omega arith in
+      let sum : is.spent + left ≡ budget = is.sum in
+      let over : left < more.0 = more.2 in
+      let here = subst (λ r. HasBoards g r b 0 more.0) same more.1 in
+      (is.bounds, (is.thresholds, is.reached, (is.spent, more.0, is.fails, omega arith, here, omega arith)))
 
   -- where no threshold is left
   pub deep_beyond : (left bound : ℕ) → 254 ≤ bound → IsDeep g b budget left bound → IsDeepened g b budget Beyond

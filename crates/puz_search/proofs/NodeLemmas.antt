@@ -1,27 +1,26 @@
 -- Nodes, the moves that lead to them, and what the searches below them answer.
-use Rattle.std.proofs.Common.{◌≡◌, ℕ, ◌+◌, ◌-◌, ◌*◌, ◌≤◌, ◌↔◌, ◌⊎◌, inl, inr, false, List, [], ◌∷◌, ◌++◌, Option, Some, IfSome, refl, sym, ap, subst}
+use Rattle.std.proofs.Common.{◌≡◌, ℕ, ◌+◌, ◌-◌, ◌≤◌, ◌↔◌, ◌⊎◌, inl, inr, false, List, [], ◌∷◌, ◌++◌, Option, Some, IfSome, refl, sym, ap, subst}
 use Rattle.std.proofs.Common.{append_assoc, eq-eqb, arith}
 use Rattle.puz_board.specs.Boards.{IsGoal, moved}
 use Rattle.puz_board.specs.Cells.{move_of_letter}
 use Rattle.puz_board.specs.declared.moves.Move.{Move}
 use Rattle.puz_board.specs.declared.moves.Move.TheVariants.{Up, Down, Left, Right}
-use Rattle.puz_search.specs.Frontiers.{Adds, IsMore, child_fails_of}
+use Rattle.puz_search.specs.Frontiers.{Adds, IsMore, child_counts_of}
 use Rattle.puz_search.specs.Guides.{ShownGuide, automaton_of}
-use Rattle.puz_search.specs.Nodes.{IsLed, IsPartAnswer, IsWalkTo, node_fails, solves_below, solves_first, walk_to}
-use Rattle.puz_search.specs.Prefixes.{IsInside, IsOutside, next_ahead, next_rank, part_of}
-use Rattle.puz_search.specs.Outcomes.{IsTrail, bound_at, guide_at, prefix_fails_at, walk_at}
+use Rattle.puz_search.specs.Nodes.{IsLed, IsPartAnswer, IsWalkTo, node_counts, solves_below, solves_first, walk_to}
+use Rattle.puz_search.specs.Prefixes.{Count, IsInside, IsOutside, both_counts, counted, next_ahead, next_rank, part_of}
+use Rattle.puz_search.specs.Outcomes.{IsTrail, guide_at, prefix_counts_at, walk_at}
 use Rattle.move_strings.specs.Automata.{left_out, next_at}
 use Rattle.puz_walk.specs.Walks.{IsClosed, IsCutOff, LeadsNowhere, ShownWalk}
-use Rattle.puz_search.specs.Searches.{InTurn, PartFails, leaves_out, most_boards}
+use Rattle.puz_search.specs.Searches.{leaves_out}
 use Rattle.puz_search.specs.declared.answers.SearchAnswer.{SearchAnswer}
 use Rattle.puz_search.specs.declared.answers.SearchAnswer.TheVariants.{Refuted, Solved, Spent}
 use Rattle.puz_search.specs.declared.nodes.Node.{Node}
 use Rattle.puz_search.specs.declared.searches.Search.{Search}
 use Rattle.puz_search.specs.declared.walks.Reached.{Reached}
-use Rattle.puz_search.proofs.CountLemmas.{adds_as, adds_both}
-use Rattle.puz_search.proofs.FailLemmas.{at_child, at_nowhere, at_out, part_closed, part_open, part_outside}
+use Rattle.puz_search.proofs.CountLemmas.{AreSame, adds_as, adds_both}
+use Rattle.puz_search.proofs.FailLemmas.{at_child, at_nowhere, at_out, part_closed, part_more, part_open, part_outside}
 use Rattle.puz_search.proofs.TrailLemmas.{trail_move}
-use Rattle.puz_search.proofs.WalkLemmas.{most_open}
 
 -- the letters behind a move of a node
 pub led_after : (s : Search) (node : Node) (move : Move) (next : List ℕ) (letter : ℕ) (text : List ℕ) → IsLed s node → 1 ≤ node.bound
@@ -32,12 +31,12 @@ led_after s node move next letter text led some leads names trail =
     (led.leads (letter ∷ text) (trail_move node.board next node.bound letter text move some leads names trail))
 
 -- what a search below a node answers, said of the first board
-pub node_answer : (s : Search) (node : Node) → IsLed s node → (Part : ℕ → Type 0) (most budget : ℕ) (answer : SearchAnswer)
-    → IsPartAnswer Part most (solves_below node) budget answer
-    → IsPartAnswer Part most (solves_first s) budget answer
-node_answer s node led Part most budget (Refuted boards) is = is
-node_answer s node led Part most budget (Solved letters) is = (subst (IsTrail s.start.now.board s.bound) (sym is.0.2) (led.leads is.0.0 is.0.1), is.1)
-node_answer s node led Part most budget Spent is = is
+pub node_answer : (s : Search) (node : Node) → IsLed s node → (Part : Count → ℕ → Type 0) (budget : ℕ) (answer : SearchAnswer)
+    → IsPartAnswer Part (solves_below node) budget answer
+    → IsPartAnswer Part (solves_first s) budget answer
+node_answer s node led Part budget (Refuted boards) is = is
+node_answer s node led Part budget (Solved letters) is = (subst (IsTrail s.start.now.board s.bound) (sym is.0.2) (led.leads is.0.0 is.0.1), is.1)
+node_answer s node led Part budget Spent is = is
 
 -- ---- a node that is reached
 
@@ -62,45 +61,44 @@ module _ {W : Type 0} (shown : W → ShownWalk) (s : Search) (node : Node) (reac
   reached_guide = let bundle = ap (λ w. w.bundle) is.walk in let steps = ap (λ a. a.steps) is.automaton in λ i. record { bundle = bundle i; steps = steps i }
 
   -- the search from there is that below the node
-  pub reached_fails : (n : ℕ) → prefix_fails_at shown node.prefix reached n ↔ node_fails s node n
-  reached_fails n =
-      let Says : ShownGuide → ShownWalk → ℕ → Type 0 = λ g w a. PartFails g (part_of node.prefix) node.prefix.ahead node.prefix.rank w.bound w.board a n in (
+  pub reached_counts : AreSame (prefix_counts_at shown node.prefix reached) (node_counts s node)
+  reached_counts count n =
+      let Says : ShownGuide → ShownWalk → ℕ → Type 0 = λ g w a. counted g (part_of node.prefix) node.prefix.ahead node.prefix.rank w.bound w.board a count n in (
         λ h. subst (λ g. Says g (walk_to s node) node.state) reached_guide
             (subst (λ w. Says (guide_at shown reached) w node.state) is.walk (subst (Says (guide_at shown reached) (walk_at shown reached)) is.state h)),
         λ h. subst (Says (guide_at shown reached) (walk_at shown reached)) (sym is.state)
             (subst (λ w. Says (guide_at shown reached) w node.state) (sym is.walk) (subst (λ g. Says g (walk_to s node) node.state) (sym reached_guide) h)),
       )
 
-  -- the most boards for the bound that was reached are those for the bound of the node
-  pub reached_most : most_boards (bound_at shown reached) ≡ most_boards node.bound
-  reached_most = ap (λ w. most_boards w.bound) is.walk
-
 -- ---- the node after a move
 
--- the search of the board after a move
-abbrev pub NextFails : Search → Node → Move → List ℕ → ℕ → Type 0
-NextFails s node move next n =
-    PartFails s.guide.now (part_of node.prefix) (next_ahead node.prefix.ahead) (next_rank node.prefix.ahead node.prefix.rank move) (node.bound - 1) next
-    (next_at s.guide.now.steps node.state move) n
+-- what holds of the counts of the search of the board after a move
+abbrev pub NextCounts : Search → Node → Count → Move → List ℕ → ℕ → Type 0
+NextCounts s node count move next n =
+    counted s.guide.now (part_of node.prefix) (next_ahead node.prefix.ahead) (next_rank node.prefix.ahead node.prefix.rank move) (node.bound - 1) next
+    (next_at s.guide.now.steps node.state move) count n
 
 -- a closed node
 pub node_closed : (s : Search) (node : Node)
-    → (IsOutside (part_of node.prefix) node.prefix.ahead node.prefix.rank ⊎ IsClosed s.guide.now.bundle node.board node.bound) → (n : ℕ)
-    → node_fails s node n ↔ (n ≡ 0)
-node_closed s node (inl out) n = part_outside s.guide.now (part_of node.prefix) node.board node.state node.prefix.ahead node.prefix.rank node.bound out n
-node_closed s node (inr closed) n = part_closed s.guide.now (part_of node.prefix) node.board node.state node.prefix.ahead node.prefix.rank node.bound closed n
+    → (IsOutside (part_of node.prefix) node.prefix.ahead node.prefix.rank ⊎ IsClosed s.guide.now.bundle node.board node.bound)
+    → (count : Count) (n : ℕ) → node_counts s node count n ↔ (n ≡ 0)
+node_closed s node (inl out) count n =
+    part_outside s.guide.now (part_of node.prefix) node.board node.state count node.prefix.ahead node.prefix.rank node.bound out n
+node_closed s node (inr closed) count n =
+    part_closed s.guide.now (part_of node.prefix) node.board node.state count node.prefix.ahead node.prefix.rank node.bound closed n
 
 -- where the automaton leaves the move out
-pub child_out : (s : Search) (node : Node) (move : Move) → next_at s.guide.now.steps node.state move ≡ left_out → (n : ℕ)
-    → child_fails_of s node move n ↔ (n ≡ 0)
-child_out s node move out n =
-    at_out (moved node.board move) (leaves_out s.guide.now.steps node.state move) (NextFails s node move)
+pub child_out : (s : Search) (node : Node) (move : Move) → next_at s.guide.now.steps node.state move ≡ left_out
+    → (count : Count) (n : ℕ) → child_counts_of s node move count n ↔ (n ≡ 0)
+child_out s node move out count n =
+    at_out (moved node.board move) (leaves_out s.guide.now.steps node.state move) (NextCounts s node count move)
     (eq-eqb (next_at s.guide.now.steps node.state move) left_out out) n
 
 -- where the move leads to no board that is open
-pub child_nowhere : (s : Search) (node : Node) (move : Move) → LeadsNowhere (walk_to s node) move → (n : ℕ) → child_fails_of s node move n ↔ (n ≡ 0)
-child_nowhere s node move none n =
-    at_nowhere s.guide.now (part_of node.prefix) (next_ahead node.prefix.ahead) (next_rank node.prefix.ahead node.prefix.rank move) (node.bound - 1)
+pub child_nowhere : (s : Search) (node : Node) (move : Move) → LeadsNowhere (walk_to s node) move
+    → (count : Count) (n : ℕ) → child_counts_of s node move count n ↔ (n ≡ 0)
+child_nowhere s node move none count n =
+    at_nowhere s.guide.now (part_of node.prefix) count (next_ahead node.prefix.ahead) (next_rank node.prefix.ahead node.prefix.rank move) (node.bound - 1)
     (moved node.board move) (leaves_out s.guide.now.steps node.state move) (next_at s.guide.now.steps node.state move) none n
 
 module _ (s : Search) (node child : Node) (move : Move) (next : List ℕ) (leads : moved node.board move ≡ Some next)
@@ -109,37 +107,37 @@ module _ (s : Search) (node child : Node) (move : Move) (next : List ℕ) (leads
     (part : part_of child.prefix ≡ part_of node.prefix) (less : child.prefix.ahead ≡ next_ahead node.prefix.ahead)
     (read : child.prefix.rank ≡ next_rank node.prefix.ahead node.prefix.rank move) where
   -- the search below it is that after the move
-  pub child_same : (n : ℕ) → child_fails_of s node move n ↔ node_fails s child n
-  child_same n =
+  pub child_same : AreSame (child_counts_of s node move) (node_counts s child)
+  child_same count n =
       let g = s.guide.now in
       let to = next_at g.steps node.state move in
       let fewer : node.bound - 1 ≡ child.bound = omega arith in
       let p = part_of node.prefix in
       let a = next_ahead node.prefix.ahead in
       let m = next_rank node.prefix.ahead node.prefix.rank move in
-      let at = at_child (moved node.board move) (leaves_out s.guide.now.steps node.state move) (NextFails s node move) next leads on n in
-      let there : NextFails s node move next n → node_fails s child n =
-      λ h. subst (λ k. PartFails g k child.prefix.ahead child.prefix.rank child.bound child.board child.state n) (sym part)
-      (subst (λ k. PartFails g p k child.prefix.rank child.bound child.board child.state n) (sym less)
-      (subst (λ k. PartFails g p a k child.bound child.board child.state n) (sym read)
-      (subst (λ k. PartFails g p a m k child.board child.state n) fewer
-      (subst (λ k. PartFails g p a m (node.bound - 1) k child.state n) (sym board)
-      (subst (λ k. PartFails g p a m (node.bound - 1) next k n) (sym state) h))))) in
-      let back : node_fails s child n → NextFails s node move next n =
-      λ h. subst (λ k. PartFails g p a m (node.bound - 1) next k n) state
-      (subst (λ k. PartFails g p a m (node.bound - 1) k child.state n) board
-      (subst (λ k. PartFails g p a m k child.board child.state n) (sym fewer)
-      (subst (λ k. PartFails g p a k child.bound child.board child.state n) read
-      (subst (λ k. PartFails g p k child.prefix.rank child.bound child.board child.state n) less
-      (subst (λ k. PartFails g k child.prefix.ahead child.prefix.rank child.bound child.board child.state n) part h))))) in
+      let at = at_child (moved node.board move) (leaves_out s.guide.now.steps node.state move) (NextCounts s node count move) next leads on n in
+      let there : NextCounts s node count move next n → node_counts s child count n =
+      λ h. subst (λ k. counted g k child.prefix.ahead child.prefix.rank child.bound child.board child.state count n) (sym part)
+      (subst (λ k. counted g p k child.prefix.rank child.bound child.board child.state count n) (sym less)
+      (subst (λ k. counted g p a k child.bound child.board child.state count n) (sym read)
+      (subst (λ k. counted g p a m k child.board child.state count n) fewer
+      (subst (λ k. counted g p a m (node.bound - 1) k child.state count n) (sym board)
+      (subst (λ k. counted g p a m (node.bound - 1) next k count n) (sym state) h))))) in
+      let back : node_counts s child count n → NextCounts s node count move next n =
+      λ h. subst (λ k. counted g p a m (node.bound - 1) next k count n) state
+      (subst (λ k. counted g p a m (node.bound - 1) k child.state count n) board
+      (subst (λ k. counted g p a m k child.board child.state count n) (sym fewer)
+      (subst (λ k. counted g p a k child.bound child.board child.state count n) read
+      (subst (λ k. counted g p k child.prefix.rank child.bound child.board child.state count n) less
+      (subst (λ k. counted g k child.prefix.ahead child.prefix.rank child.bound child.board child.state count n) part h))))) in
       (λ h. there (at.0 h), λ h. at.1 (back h))
 
   -- where it is closed, no board is expanded after the move
-  pub child_closed : (IsOutside (part_of child.prefix) child.prefix.ahead child.prefix.rank ⊎ IsClosed s.guide.now.bundle child.board child.bound) → (n : ℕ)
-      → child_fails_of s node move n ↔ (n ≡ 0)
-  child_closed closed n =
-      let same = child_same n in
-      let none = node_closed s child closed n in
+  pub child_closed : (IsOutside (part_of child.prefix) child.prefix.ahead child.prefix.rank ⊎ IsClosed s.guide.now.bundle child.board child.bound)
+      → (count : Count) (n : ℕ) → child_counts_of s node move count n ↔ (n ≡ 0)
+  child_closed closed count n =
+      let same = child_same count n in
+      let none = node_closed s child closed count n in
       (λ h. none.0 (same.0 h), λ e. same.1 (none.1 e))
 
 -- ---- a node that is expanded
@@ -147,29 +145,33 @@ module _ (s : Search) (node child : Node) (move : Move) (next : List ℕ) (leads
 module _ (s : Search) (node : Node) (inside : IsInside (part_of node.prefix) node.prefix.ahead node.prefix.rank) (some : 1 ≤ node.bound)
     (whole : ¬ IsCutOff s.guide.now.bundle node.board node.bound) (far : ¬ IsGoal node.board) where
   -- the searches after its moves, in their order
-  abbrev After : Move → ℕ → Type 0
-  After move = child_fails_of s node move
+  abbrev After : Move → Count → ℕ → Type 0
+  After move count boards = child_counts_of s node move count boards
 
-  opened_more : IsMore (node_fails s node) (InTurn (After Up) (InTurn (After Down) (InTurn (After Left) (After Right)))) 1
+  abbrev Two : Count → ℕ → Type 0
+  Two count boards = both_counts (After Left) (After Right) count boards
+
+  abbrev Three : Count → ℕ → Type 0
+  Three count boards = both_counts (After Down) Two count boards
+
+  abbrev Four : Count → ℕ → Type 0
+  Four count boards = both_counts (After Up) Three count boards
+
+  opened_more : IsMore (node_counts s node) Four 1
   opened_more = record {
     to =
         λ n h. let open_ = (part_open s.guide.now (part_of node.prefix) node.board node.state node.prefix.ahead node.prefix.rank node.bound inside some
         whole far n).0 h in (open_.0, open_.2, open_.1);
-    back =
-        λ n rest h e. (part_open s.guide.now (part_of node.prefix) node.board node.state node.prefix.ahead node.prefix.rank node.bound inside some whole far
-        n).1 (rest, e, h);
+    back = λ count n rest h e. subst (node_counts s node count) (sym e)
+        (part_more s.guide.now (part_of node.prefix) node.board node.state count node.prefix.ahead node.prefix.rank node.bound inside some whole far rest h);
   }
 
   -- the nodes after its moves are added
-  pub opened_adds : (old one two three new : List Node) → Adds s (After Up) (most_boards (node.bound - 1)) 0 old one
-      → Adds s (After Down) (most_boards (node.bound - 1)) 0 one two
-      → Adds s (After Left) (most_boards (node.bound - 1)) 0 two three → Adds s (After Right) (most_boards (node.bound - 1)) 0 three new
-      → Adds s (node_fails s node) (most_boards node.bound) 1 old new
+  pub opened_adds : (old one two three new : List Node) → Adds s (After Up) 0 old one → Adds s (After Down) 0 one two
+      → Adds s (After Left) 0 two three → Adds s (After Right) 0 three new
+      → Adds s (node_counts s node) 1 old new
   opened_adds old one two three new a b c d =
-      let M = most_boards (node.bound - 1) in
-      let most : most_boards node.bound ≡ 4 * most_boards (node.bound - 1) + 1 = most_open node.bound some in
-      let last = adds_both s (After Left) (After Right) M M 0 0 two three new c d in
-      let rest = adds_both s (After Down) (InTurn (After Left) (After Right)) M (M + M) 0 0 one two new b last in
-      let all = adds_both s (After Up) (InTurn (After Down) (InTurn (After Left) (After Right))) M (M + (M + M)) 0 0 old one new a rest in
-      adds_as s (node_fails s node) (InTurn (After Up) (InTurn (After Down) (InTurn (After Left) (After Right)))) (M + (M + (M + M)))
-      (most_boards node.bound) 0 1 1 old new opened_more refl (omega arith) all
+      let last = adds_both s (After Left) (After Right) 0 0 two three new c d in
+      let rest = adds_both s (After Down) Two 0 0 one two new b last in
+      let all = adds_both s (After Up) Three 0 0 old one new a rest in
+      adds_as s (node_counts s node) Four 0 1 1 old new opened_more refl all

@@ -5,7 +5,7 @@ use Rattle.puz_board.specs.Parity.{blank_parity}
 use Rattle.move_strings.specs.BoundParts.{IsPartBounded, ShownPart}
 use Rattle.set_sum.specs.Bounds.{IsBounded}
 use Rattle.puz_search.specs.Guides.{ShownGuide}
-use Rattle.puz_search.specs.Searches.{Fails, FailsInTurn, SearchOfPartFails}
+use Rattle.puz_search.specs.Searches.{Fails, FailsInTurn, HasBoards, SearchOfPartFails, SearchOfPartHas}
 use Rattle.puz_search.specs.declared.answers.SearchAnswer.{SearchAnswer}
 use Rattle.puz_search.specs.declared.answers.SearchAnswer.TheVariants as answer
 use Rattle.puz_search.specs.declared.deepening.Deepened.{Deepened}
@@ -18,30 +18,30 @@ abbrev pub IsShorter : List ℕ → ℕ → List ℕ → Type 0
 IsShorter b r letters = (moves : ℕ) × (moves < r) × Solves b letters moves
 
 -- No solution of the board has fewer than r moves, and the search for one fails with so many boards, within the budget; or these
--- letters are one that has; or the search expands more boards than the budget wherever it fails.
+-- letters are one that has; or the search has more boards than the budget.
 abbrev pub IsAnswer : ShownGuide → List ℕ → ℕ → ℕ → SearchAnswer → Type 0
 IsAnswer g b r budget (answer.Refuted boards) = IsBounded b r × Fails g r b 0 boards × (boards ≤ budget)
 IsAnswer g b r budget (answer.Solved letters) = IsShorter b r letters.items
-IsAnswer g b r budget answer.Spent = (boards : ℕ) → Fails g r b 0 boards → budget < boards
+IsAnswer g b r budget answer.Spent = (boards : ℕ) × HasBoards g r b 0 boards × (budget < boards)
 
 -- The same of a part of the bound: where it is refuted, the least solution of fewer than r moves isn't of the part. A solution
 -- may be of any part.
 abbrev pub IsAnswerOfPart : ShownGuide → ShownPart → List ℕ → ℕ → ℕ → SearchAnswer → Type 0
 IsAnswerOfPart g p b r budget (answer.Refuted boards) = IsPartBounded p r b × SearchOfPartFails g p r b boards × (boards ≤ budget)
 IsAnswerOfPart g p b r budget (answer.Solved letters) = IsShorter b r letters.items
-IsAnswerOfPart g p b r budget answer.Spent = (boards : ℕ) → SearchOfPartFails g p r b boards → budget < boards
+IsAnswerOfPart g p b r budget answer.Spent = (boards : ℕ) × SearchOfPartHas g p r b boards × (budget < boards)
 
 -- ---- threshold by threshold
 
--- the searches below the first k thresholds fail in turn within the budget, but those below the first k + 1 don't: where they
--- fail, they expand more boards
+-- the searches below the first k thresholds fail in turn within the budget, and the search below the next threshold has more boards
+-- than what they leave of it
 abbrev pub IsSpentAfter : ShownGuide → List ℕ → ℕ → ℕ → Type 0
 IsSpentAfter g b budget k =
-    ((boards : ℕ) × FailsInTurn g b k boards × (boards ≤ budget)) ×
-    ((boards : ℕ) → FailsInTurn g b (k + 1) boards → budget < boards)
+    (spent boards : ℕ) × FailsInTurn g b k spent × (spent ≤ budget) ×
+    HasBoards g (blank_parity b + 2 * k + 1) b 0 boards × (budget < spent + boards)
 
--- These letters are a shortest solution. Or no solution has fewer moves than this bound, and the searches below the next
--- threshold and those before it expand more boards than the budget. Or no solution has fewer than 254 moves.
+-- These letters are a shortest solution. Or no solution has fewer moves than this bound, and the search below the next threshold
+-- and those before it have more boards than the budget. Or no solution has fewer than 254 moves.
 abbrev pub IsDeepened : ShownGuide → List ℕ → ℕ → Deepened → Type 0
 IsDeepened g b budget (deepened.Shortest letters) = (moves : ℕ) × Solves b letters.items moves × IsBounded b moves
 IsDeepened g b budget (deepened.Spent bound) =

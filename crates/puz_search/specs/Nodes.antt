@@ -5,19 +5,19 @@ use Rattle.move_strings.specs.Automata.{IsState}
 use Rattle.puz_walk.specs.Starts.{AreSumsOn}
 use Rattle.puz_walk.specs.Walks.{IsClosed, ShownWalk}
 use Rattle.puz_search.specs.Outcomes.{IsTrail}
-use Rattle.puz_search.specs.Prefixes.{prefix_fails}
+use Rattle.puz_search.specs.Prefixes.{Count, at_least, in_all, prefix_counts}
 use Rattle.puz_search.specs.declared.answers.SearchAnswer.{SearchAnswer}
 use Rattle.puz_search.specs.declared.answers.SearchAnswer.TheVariants.{Refuted, Solved, Spent}
 use Rattle.puz_search.specs.declared.nodes.Node.{Node}
 use Rattle.puz_search.specs.declared.searches.Search.{Search}
 
--- the search below a node fails, and expands so many boards
-abbrev pub node_fails : Search → Node → ℕ → Type 0
-node_fails s node boards = prefix_fails s.guide.now node.prefix node.bound node.board node.state boards
+-- what holds of the counts of the search below a node
+abbrev pub node_counts : Search → Node → Count → ℕ → Type 0
+node_counts s node count boards = prefix_counts s.guide.now node.prefix node.bound node.board node.state count boards
 
--- the whole search fails, and expands so many boards
-abbrev pub search_fails : Search → ℕ → Type 0
-search_fails s boards = prefix_fails s.guide.now s.prefix s.bound s.start.now.board 0 boards
+-- of those of the whole search
+abbrev pub search_counts : Search → Count → ℕ → Type 0
+search_counts s count boards = prefix_counts s.guide.now s.prefix s.bound s.start.now.board 0 count boards
 
 -- the node is that of the first board
 pub record IsFirst (s : Search) (node : Node) : Type 0 where
@@ -55,9 +55,9 @@ solves_below node letters = (text : List ℕ) × IsTrail node.board node.bound t
 abbrev pub solves_first : Search → List ℕ → Type 0
 solves_first s letters = IsTrail s.start.now.board s.bound letters
 
--- what a part of a search answers within a budget: these say with how many boards it fails, at most so many, and what its
--- solutions are; where it finds one it doesn't fail
-abbrev pub IsPartAnswer : (ℕ → Type 0) → ℕ → (List ℕ → Type 0) → ℕ → SearchAnswer → Type 0
-IsPartAnswer Part most IsSolved budget (Refuted boards) = Part boards × (boards ≤ budget)
-IsPartAnswer Part most IsSolved budget (Solved letters) = IsSolved letters.items × ((boards : ℕ) → ¬ Part boards)
-IsPartAnswer Part most IsSolved budget Spent = ((boards : ℕ) → Part boards → budget < boards) × (budget < most)
+-- What a part of a search answers within a budget: these say what holds of its counts, and what its solutions are. Where it finds
+-- one it doesn't fail, and where its budget is spent it has more boards.
+abbrev pub IsPartAnswer : (Count → ℕ → Type 0) → (List ℕ → Type 0) → ℕ → SearchAnswer → Type 0
+IsPartAnswer Part IsSolved budget (Refuted boards) = ((count : Count) → Part count boards) × (boards ≤ budget)
+IsPartAnswer Part IsSolved budget (Solved letters) = IsSolved letters.items × ((boards : ℕ) → ¬ Part in_all boards)
+IsPartAnswer Part IsSolved budget Spent = (boards : ℕ) × Part at_least boards × (budget < boards)

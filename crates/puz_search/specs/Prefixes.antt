@@ -1,10 +1,10 @@
--- How far the letters that tell a part have been read.
+-- How far the letters that tell a part have been read, and the counts of boards behind them.
 use Rattle.std.specs.Prelude.{◌≡◌, ◌≢◌, ℕ, zero, suc, ◌+◌, ◌*◌, ◌%◌, List}
 use Rattle.puz_board.specs.declared.moves.Move.{Move}
 use Rattle.move_strings.specs.BoundParts.{ShownPart}
 use Rattle.move_strings.specs.Strings.{rank_of}
 use Rattle.puz_search.specs.Guides.{ShownGuide}
-use Rattle.puz_search.specs.Searches.{PartFails}
+use Rattle.puz_search.specs.Searches.{InTurn, PartFails, PartHas}
 use Rattle.puz_search.specs.declared.prefixes.Prefix.{Prefix}
 
 -- ---- after a move
@@ -39,6 +39,27 @@ part_of x = record { index = x.index; count = x.count }
 abbrev pub IsRead : Prefix → Type 0
 IsRead x = (x.ahead ≡ 0) × (x.rank % x.count ≡ x.index)
 
--- the search from a board behind these letters fails, and expands so many boards
-abbrev pub prefix_fails : ShownGuide → Prefix → ℕ → List ℕ → ℕ → ℕ → Type 0
-prefix_fails g x r b state boards = PartFails g (part_of x) x.ahead x.rank r b state boards
+-- ---- counts of boards
+
+-- of all boards of a search that fails, or of some that a search has at least
+pub data Count : Type 0 where
+  in_all : Count
+  at_least : Count
+
+-- what holds of the counts of the search from a board, behind letters of this rank that tell a part: it fails and expands so many
+-- boards in all, or it has so many at least
+abbrev pub counted : ShownGuide → ShownPart → ℕ → ℕ → ℕ → List ℕ → ℕ → Count → ℕ → Type 0
+counted g p ahead rank r b state in_all boards = PartFails g p ahead rank r b state boards
+counted g p ahead rank r b state at_least boards = PartHas g p ahead rank r b state boards
+
+-- behind the letters of a prefix
+abbrev pub prefix_counts : ShownGuide → Prefix → ℕ → List ℕ → ℕ → Count → ℕ → Type 0
+prefix_counts g x r b state count boards = counted g (part_of x) x.ahead x.rank r b state count boards
+
+-- all moves are those of the only part, of which no letter is to come
+abbrev pub only_part : ShownPart
+only_part = record { index = 0; count = 1 }
+
+-- of one part of a search, and then of the other
+abbrev pub both_counts : (Count → ℕ → Type 0) → (Count → ℕ → Type 0) → Count → ℕ → Type 0
+both_counts One Other count boards = InTurn (One count) (Other count) boards

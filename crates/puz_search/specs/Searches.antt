@@ -1,4 +1,4 @@
--- Depth-first searches below a threshold, and when they fail (Korf 1985).
+-- Depth-first searches below a threshold, when they fail (Korf 1985), and how many boards they have.
 use Rattle.std.specs.Prelude.{◌≡◌, ◌==◌, ℕ, zero, suc, ◌+◌, ◌*◌, ◌%◌, Bool, true, false, ◌⊎◌, List, Option, Some, None}
 use Rattle.puz_board.specs.Boards.{IsGoal, moved}
 use Rattle.puz_board.specs.Parity.{blank_parity}
@@ -38,18 +38,31 @@ AtChildren steps state b Holds =
     (AtChild (moved b Right) (leaves_out steps state Right) (Holds Right))))
 
 module _ (g : ShownGuide) where
-  -- A search from a board that was reached in a state of the automaton, for a solution of fewer than r moves, where r isn't 0,
-  -- fails, and expands so many boards. It expands none where a set cuts the board off. Otherwise the board isn't the goal board,
-  -- and it expands this board and those that the searches after its moves expand, which fail too.
+  -- A search for a solution of fewer than r moves, where r isn't 0, expands a board that was reached in a state of the automaton: no
+  -- set cuts the board off, and it isn't the goal board. It counts, and so do the boards that are counted after its moves.
+  abbrev pub IsExpanded : ℕ → List ℕ → ℕ → (Move → List ℕ → ℕ → Type 0) → ℕ → Type 0
+  IsExpanded r b state After boards =
+      (¬ IsCutOff g.bundle b r) × (¬ IsGoal b) × (below : ℕ) × (boards ≡ below + 1) × AtChildren g.steps state b After below
+
+  -- The search from the board fails, and expands so many boards: none where a set cuts the board off, and otherwise this board and
+  -- those that the searches after its moves expand, which fail too.
   abbrev pub FailsAfter : ℕ → List ℕ → ℕ → (Move → List ℕ → ℕ → Type 0) → ℕ → Type 0
-  FailsAfter r b state After boards =
-      (IsCutOff g.bundle b r × (boards ≡ 0)) ⊎
-      ((¬ IsCutOff g.bundle b r) × (¬ IsGoal b) × (below : ℕ) × (boards ≡ below + 1) × AtChildren g.steps state b After below)
+  FailsAfter r b state After boards = (IsCutOff g.bundle b r × (boards ≡ 0)) ⊎ IsExpanded r b state After boards
 
   -- the search of all moves; it expands none where r is 0
   abbrev pub Fails : ℕ → List ℕ → ℕ → ℕ → Type 0
   Fails zero b state boards = boards ≡ 0
   Fails (suc r) b state boards = FailsAfter (suc r) b state (λ move next. Fails r next (next_at g.steps state move)) boards
+
+  -- The search from the board has at least so many boards to expand, whether it fails or finds a solution: none are counted, or this
+  -- board and some after its moves.
+  abbrev pub HasAfter : ℕ → List ℕ → ℕ → (Move → List ℕ → ℕ → Type 0) → ℕ → Type 0
+  HasAfter r b state After boards = (boards ≡ 0) ⊎ IsExpanded r b state After boards
+
+  -- the search of all moves; it has none where r is 0
+  abbrev pub HasBoards : ℕ → List ℕ → ℕ → ℕ → Type 0
+  HasBoards zero b state boards = boards ≡ 0
+  HasBoards (suc r) b state boards = HasAfter (suc r) b state (λ move next. HasBoards r next (next_at g.steps state move)) boards
 
 -- ---- the search of a part
 
@@ -67,9 +80,20 @@ module _ (g : ShownGuide) (p : ShownPart) where
   PartFails (suc ahead) rank (suc r) b state boards =
       FailsAfter g (suc r) b state (λ move next. PartFails ahead (4 * rank + rank_of move) r next (next_at g.steps state move)) boards
 
+  -- it has at least so many boards
+  abbrev pub PartHas : ℕ → ℕ → ℕ → List ℕ → ℕ → ℕ → Type 0
+  PartHas zero rank r b state boards = WhereTrue (rank % p.count == p.index) (HasBoards g r b state) boards
+  PartHas (suc ahead) rank zero b state boards = boards ≡ 0
+  PartHas (suc ahead) rank (suc r) b state boards =
+      HasAfter g (suc r) b state (λ move next. PartHas ahead (4 * rank + rank_of move) r next (next_at g.steps state move)) boards
+
 -- the search of a part for a solution of a board of fewer than r moves fails, and expands so many boards
 abbrev pub SearchOfPartFails : ShownGuide → ShownPart → ℕ → List ℕ → ℕ → Type 0
 SearchOfPartFails g p r b boards = PartFails g p (letters_of p) 0 r b 0 boards
+
+-- it has at least so many boards
+abbrev pub SearchOfPartHas : ShownGuide → ShownPart → ℕ → List ℕ → ℕ → Type 0
+SearchOfPartHas g p r b boards = PartHas g p (letters_of p) 0 r b 0 boards
 
 -- ---- thresholds
 
@@ -79,8 +103,3 @@ SearchOfPartFails g p r b boards = PartFails g p (letters_of p) 0 r b 0 boards
 abbrev pub FailsInTurn : ShownGuide → List ℕ → ℕ → ℕ → Type 0
 FailsInTurn g b zero boards = boards ≡ 0
 FailsInTurn g b (suc k) boards = InTurn (FailsInTurn g b k) (Fails g (blank_parity b + 2 * k + 1) b 0) boards
-
--- the most boards that are expanded in a search for a solution of fewer than r moves
-abbrev pub most_boards : ℕ → ℕ
-most_boards zero = 0
-most_boards (suc r) = 4 * most_boards r + 1

@@ -5,10 +5,9 @@ ghost use Rattle.std.specs.List.{All};
 ghost use Rattle.puz_board.specs.Boards.{moved};
 ghost use Rattle.puz_walk.specs.Starts.{AreSumsOn};
 ghost use Rattle.puz_walk.specs.Walks.{LeadsNowhere};
-ghost use Rattle.puz_search.specs.Frontiers.{Adds, IsFrontier, all_fail, child_fails_of, most_of};
-ghost use Rattle.puz_search.specs.Nodes.{IsFirst, IsLed, IsWalkTo, node_fails, walk_to};
+ghost use Rattle.puz_search.specs.Frontiers.{Adds, IsFrontier, all_counts, child_counts_of};
+ghost use Rattle.puz_search.specs.Nodes.{IsFirst, IsLed, IsWalkTo, node_counts, walk_to};
 ghost use Rattle.puz_search.specs.Prefixes.{IsInside, part_of};
-ghost use Rattle.puz_search.specs.Searches.{most_boards};
 
 use crate::guides::Sets;
 use crate::nodes::{Node, Target};
@@ -65,8 +64,8 @@ pub(crate) fn frontier_of(
 fn next_level(task: &Search<'_>, nodes: Vec<Node>, alloc: Global) -> Result<Frontier, AllocError>
     requires led { All (IsLed task.now) nodes.items }
     requires few { length nodes.items < 4096 }
-    ensures next { IfOk result (λ next. Adds task.now (all_fail task.now nodes.items)
-        (most_of nodes.items) next.expanded [] next.nodes.items) }
+    ensures next { IfOk result (λ next. Adds task.now (all_counts task.now nodes.items)
+        next.expanded [] next.nodes.items) }
     ensures few { IfOk result (λ next. next.expanded ≤ length nodes.items) }
 {
     let mut next = Vec::new(alloc);
@@ -85,8 +84,8 @@ fn next_level(task: &Search<'_>, nodes: Vec<Node>, alloc: Global) -> Result<Fron
 /// Adds the nodes after the moves of a node, and answers whether it was expanded.
 fn expand(task: &Search<'_>, node: Node, next: &mut Vec<Node>) -> Result<bool, AllocError>
     requires { IsLed task.now node }
-    ensures { IfOk result (λ expanded. Adds task.now (node_fails task.now node)
-        (most_boards node.bound) (if expanded then 1 else 0) next.old.items next.new.items) }
+    ensures { IfOk result (λ expanded. Adds task.now (node_counts task.now node)
+        (if expanded then 1 else 0) next.old.items next.new.items) }
 {
     if node.prefix.is_outside() {
         return Ok(false);
@@ -113,8 +112,8 @@ fn expand_by<W: Walk>(
     requires led { IsLed task.now node }
     requires inside { IsInside (part_of node.prefix) node.prefix.ahead node.prefix.rank }
     requires walk { IsWalkTo W.shown (walk_to task.now node) walk }
-    ensures { IfOk result (λ expanded. Adds task.now (node_fails task.now node)
-        (most_boards node.bound) (if expanded then 1 else 0) next.old.items next.new.items) }
+    ensures { IfOk result (λ expanded. Adds task.now (node_counts task.now node)
+        (if expanded then 1 else 0) next.old.items next.new.items) }
 {
     let Some(mut walk) = walk else {
         return Ok(false);
@@ -142,8 +141,8 @@ fn add_child<W: Walk>(
     requires led { IsLed task.now node.now }
     requires walk { W.shown walk.old ≡ walk_to task.now node.now }
     requires bound { 1 ≤ node.now.bound }
-    ensures adds { IfOk result (λ done. Adds task.now (child_fails_of task.now node.now mv)
-        (most_boards (node.now.bound - 1)) 0 next.old.items next.new.items) }
+    ensures adds { IfOk result (λ done. Adds task.now (child_counts_of task.now node.now mv)
+        0 next.old.items next.new.items) }
     ensures same { walk.new ≡ walk.old }
 {
     let Some(state) = task.guide.next(node.state, mv) else {

@@ -2,9 +2,8 @@
 
 ghost use Rattle.std.specs.Prelude.{◌≡◌};
 ghost use Rattle.std.specs.List.{All};
-ghost use Rattle.puz_search.specs.Nodes.{IsLed, IsPartAnswer, IsPlaced, node_fails, solves_first};
-ghost use Rattle.puz_search.specs.Frontiers.{AreOutcomesOf, IsOutcome, all_fail, most_of};
-ghost use Rattle.puz_search.specs.Searches.{most_boards};
+ghost use Rattle.puz_search.specs.Nodes.{IsLed, IsPartAnswer, IsPlaced, node_counts, solves_first};
+ghost use Rattle.puz_search.specs.Frontiers.{AreOutcomesOf, IsOutcome, all_counts};
 
 use crate::answers::SearchAnswer;
 use crate::efforts::Effort;
@@ -88,7 +87,7 @@ pub(crate) fn settle(
 ) -> SearchAnswer
     requires led { All (IsLed task.now) nodes.now }
     requires outcomes { AreOutcomesOf task.now nodes.now outcomes.now }
-    ensures { IsPartAnswer (all_fail task.now nodes.now) (most_of nodes.now)
+    ensures { IsPartAnswer (all_counts task.now nodes.now)
         (solves_first task.now) budget result }
 {
     let mut left = budget;
@@ -108,7 +107,7 @@ pub(crate) fn settle(
 fn settle_node(task: &Search<'_>, node: &Node, outcome: JobOutcome, budget: u64) -> SearchAnswer
     requires led { IsLed task.now node.now }
     requires outcome { IsOutcome task.now node.now outcome }
-    ensures { IsPartAnswer (node_fails task.now node.now) (most_boards node.now.bound)
+    ensures { IsPartAnswer (node_counts task.now node.now)
         (solves_first task.now) budget result }
 {
     match outcome {

@@ -1,9 +1,8 @@
 //! The search of a part, until the letters that tell it have been read.
 
 ghost use Rattle.std.specs.Prelude.{◌≡◌, ◌≤◌, [], IfErr, OnOk};
-ghost use Rattle.puz_search.specs.Outcomes.{HasState, IsRefuted, IsStop, bound_at, is_solved_at, most_children, prefix_child_fails, prefix_children_fail, prefix_fails_at};
+ghost use Rattle.puz_search.specs.Outcomes.{HasState, IsRefuted, IsStop, bound_at, is_solved_at, prefix_child_counts, prefix_children_counts, prefix_counts_at};
 ghost use Rattle.puz_search.specs.Prefixes.{IsInside, part_of};
-ghost use Rattle.puz_search.specs.Searches.{most_boards};
 
 use crate::efforts::{Effort, Stop};
 use crate::prefixes::Prefix;
@@ -21,11 +20,10 @@ pub(crate) fn search_part<W: Walk>(
 ) -> Result<(), Stop>
     requires none { effort.old.letters.items ≡ [] }
     requires state { HasState reached.old }
-    ensures refuted { OnOk result (IsRefuted (prefix_fails_at W.shown prefix.now reached.old)
-        (most_boards (bound_at W.shown reached.old)) effort.old effort.new) }
-    ensures stopped { IfErr result (λ stop. IsStop (prefix_fails_at W.shown prefix.now reached.old)
-        (is_solved_at W.shown reached.old) (most_boards (bound_at W.shown reached.old)) stop
+    ensures refuted { OnOk result (IsRefuted (prefix_counts_at W.shown prefix.now reached.old)
         effort.old effort.new) }
+    ensures stopped { IfErr result (λ stop. IsStop (prefix_counts_at W.shown prefix.now reached.old)
+        (is_solved_at W.shown reached.old) stop effort.old effort.new) }
     ensures same { reached.new ≡ reached.old }
 {
     if prefix.is_outside() {
@@ -54,11 +52,11 @@ fn search_part_children<W: Walk>(
     requires none { effort.old.letters.items ≡ [] }
     requires state { HasState reached.old }
     requires bound { 1 ≤ bound_at W.shown reached.old }
-    ensures refuted { OnOk result (IsRefuted (prefix_children_fail W.shown prefix.now reached.old)
-        (most_children 4 (bound_at W.shown reached.old)) effort.old effort.new) }
+    ensures refuted { OnOk result (IsRefuted
+        (prefix_children_counts W.shown prefix.now reached.old) effort.old effort.new) }
     ensures stopped { IfErr result (λ stop. IsStop
-        (prefix_children_fail W.shown prefix.now reached.old) (is_solved_at W.shown reached.old)
-        (most_children 4 (bound_at W.shown reached.old)) stop effort.old effort.new) }
+        (prefix_children_counts W.shown prefix.now reached.old)
+        (is_solved_at W.shown reached.old) stop effort.old effort.new) }
     ensures same { reached.new ≡ reached.old }
 {
     search_part_child(reached, Move::Up, prefix, effort)?;
@@ -79,11 +77,10 @@ fn search_part_child<W: Walk>(
     requires state { HasState reached.old }
     requires bound { 1 ≤ bound_at W.shown reached.old }
     ensures refuted { OnOk result (IsRefuted
-        (prefix_child_fails W.shown prefix.now reached.old mv)
-        (most_children 1 (bound_at W.shown reached.old)) effort.old effort.new) }
+        (prefix_child_counts W.shown prefix.now reached.old mv) effort.old effort.new) }
     ensures stopped { IfErr result (λ stop. IsStop
-        (prefix_child_fails W.shown prefix.now reached.old mv) (is_solved_at W.shown reached.old)
-        (most_children 1 (bound_at W.shown reached.old)) stop effort.old effort.new) }
+        (prefix_child_counts W.shown prefix.now reached.old mv)
+        (is_solved_at W.shown reached.old) stop effort.old effort.new) }
     ensures same { reached.new ≡ reached.old }
 {
     let Some(next) = reached.automaton.next(reached.state, mv) else {

@@ -3,9 +3,9 @@
 ghost use Rattle.std.specs.Prelude.{◌≡◌, ◌≤◌, ℕ, []};
 ghost use Rattle.puz_walk.specs.Starts.{IsStart};
 ghost use Rattle.puz_search.specs.Answers.{IsAnswer, IsAnswerOfPart};
-ghost use Rattle.puz_search.specs.Nodes.{IsPartAnswer, IsPlaced, IsWalkTo, node_fails, search_fails, solves_below, solves_first, walk_to};
-ghost use Rattle.puz_search.specs.Searches.{Fails, SearchOfPartFails, most_boards};
-ghost use Rattle.puz_search.specs.declared.answers.SearchAnswer.TheVariants.{Refuted, Spent};
+ghost use Rattle.puz_search.specs.Nodes.{IsPartAnswer, IsPlaced, IsWalkTo, node_counts, search_counts, solves_below, solves_first, walk_to};
+ghost use Rattle.puz_search.specs.Searches.{Fails, SearchOfPartFails};
+ghost use Rattle.puz_search.specs.declared.answers.SearchAnswer.TheVariants.{Refuted};
 
 use crate::answers::{SearchAnswer, joined};
 use crate::efforts::{Effort, Stop};
@@ -52,15 +52,12 @@ pub fn refute(guide: &Guide<'_>, start: &Start, bound: u8, budget: u64) -> Searc
     requires { IsStart guide.now.bundle start.now }
 
     // Refuted: no solution of the board has fewer moves, and the search fails with so many boards, within the budget. Solved:
-    // these moves solve it, and are fewer. Spent: where the search fails, it expands more boards than the budget.
+    // these moves solve it, and are fewer. Spent: the search has more boards than the budget.
     ensures answer { IsAnswer guide.now start.now.board bound budget result }
 
     // It is refuted wherever the search fails within the budget.
     ensures within { (boards : ℕ) → Fails guide.now bound start.now.board 0 boards
         → boards ≤ budget → result ≡ Refuted boards }
-
-    // A budget that is large enough is never spent.
-    ensures enough { most_boards bound ≤ budget → (result ≡ Spent → ⊥) }
 {
     // What is said of searches is said of a guide, and this says that the value is one.
     let _side = guide.side();
@@ -81,16 +78,13 @@ pub fn refute_part(guide: &Guide<'_>, start: &Start, claim: &PartBound, budget: 
     requires { IsStart guide.now.bundle start.now }
 
     // Refuted: the least solution of fewer moves, if there is one, isn't of the part, and the search of the part fails with so
-    // many boards, within the budget. Solved: these moves solve the board, and are fewer. Spent: where the search of the part
-    // fails, it expands more boards than the budget.
+    // many boards, within the budget. Solved: these moves solve the board, and are fewer. Spent: the search of the part has
+    // more boards than the budget.
     ensures answer { IsAnswerOfPart guide.now claim.now.part start.now.board claim.now.bound budget result }
 
     // It is refuted wherever the search of the part fails within the budget.
     ensures within { (boards : ℕ) → SearchOfPartFails guide.now claim.now.part claim.now.bound start.now.board boards
         → boards ≤ budget → result ≡ Refuted boards }
-
-    // A budget that is large enough is never spent.
-    ensures enough { most_boards claim.now.bound ≤ budget → (result ≡ Spent → ⊥) }
 {
     // What is said of searches is said of a guide, and this says that the value is one.
     let _side = guide.side();
@@ -107,7 +101,7 @@ pub fn refute_part(guide: &Guide<'_>, start: &Start, claim: &PartBound, budget: 
 /// Searches below the first node.
 fn refute_first(task: &Search<'_>, budget: u64) -> SearchAnswer
     requires { IsStart task.now.guide.now.bundle task.now.start.now }
-    ensures { IsPartAnswer (search_fails task.now) (most_boards task.now.bound)
+    ensures { IsPartAnswer (search_counts task.now)
         (solves_first task.now) budget result }
 {
     match task.first() {
@@ -120,7 +114,7 @@ fn refute_first(task: &Search<'_>, budget: u64) -> SearchAnswer
 pub(crate) fn refute_node(task: &Search<'_>, node: &Node, effort: &mut Effort) -> SearchAnswer
     requires placed { IsPlaced task.now node.now }
     requires none { effort.old.letters.items ≡ [] }
-    ensures { IsPartAnswer (node_fails task.now node.now) (most_boards node.now.bound)
+    ensures { IsPartAnswer (node_counts task.now node.now)
         (solves_below node.now) effort.old.left result }
 {
     match task.guide.sets() {
@@ -142,7 +136,7 @@ fn refute_over_words(
     requires words { words.now ≡ task.now.guide.now.bundle }
     requires placed { IsPlaced task.now node.now }
     requires none { effort.old.letters.items ≡ [] }
-    ensures { IsPartAnswer (node_fails task.now node.now) (most_boards node.now.bound)
+    ensures { IsPartAnswer (node_counts task.now node.now)
         (solves_below node.now) effort.old.left result }
 {
     let (board, sums, bound) = (&node.board, &node.sums, node.bound);
@@ -172,7 +166,7 @@ fn refute_by_walk<W: Walk>(
     requires placed { IsPlaced task.now node.now }
     requires walk { IsWalkTo W.shown (walk_to task.now node.now) walk }
     requires none { effort.old.letters.items ≡ [] }
-    ensures { IsPartAnswer (node_fails task.now node.now) (most_boards node.now.bound)
+    ensures { IsPartAnswer (node_counts task.now node.now)
         (solves_below node.now) effort.old.left result }
 {
     let budget = effort.left;

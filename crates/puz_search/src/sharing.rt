@@ -3,9 +3,9 @@
 ghost use Rattle.std.specs.Prelude.{◌≡◌, ◌≤◌, ℕ, IfOk};
 ghost use Rattle.puz_walk.specs.Starts.{IsStart};
 ghost use Rattle.puz_search.specs.Answers.{IsAnswer, IsAnswerOfPart};
-ghost use Rattle.puz_search.specs.Nodes.{IsFirst, IsLed, IsPartAnswer, search_fails, solves_first};
-ghost use Rattle.puz_search.specs.Searches.{Fails, SearchOfPartFails, most_boards};
-ghost use Rattle.puz_search.specs.declared.answers.SearchAnswer.TheVariants.{Refuted, Spent};
+ghost use Rattle.puz_search.specs.Nodes.{IsFirst, IsLed, IsPartAnswer, search_counts, solves_first};
+ghost use Rattle.puz_search.specs.Searches.{Fails, SearchOfPartFails};
+ghost use Rattle.puz_search.specs.declared.answers.SearchAnswer.TheVariants.{Refuted};
 
 use crate::answers::SearchAnswer;
 use crate::efforts::Effort;
@@ -42,15 +42,12 @@ pub fn refute_by<R: Threads + Sync, G: Gate + Sync>(
     requires { IsStart guide.now.bundle start.now }
 
     // Refuted: no solution of the board has fewer moves, and the search fails with so many boards, within the budget. Solved:
-    // these moves solve it, and are fewer. Spent: where the search fails, it expands more boards than the budget.
+    // these moves solve it, and are fewer. Spent: the search has more boards than the budget.
     ensures answer { IfOk result (IsAnswer guide.now start.now.board bound budget) }
 
     // It is refuted wherever the search fails within the budget.
     ensures within { (boards : ℕ) → Fails guide.now bound start.now.board 0 boards
         → boards ≤ budget → IfOk result (λ answer. answer ≡ Refuted boards) }
-
-    // A budget that is large enough is never spent.
-    ensures enough { most_boards bound ≤ budget → IfOk result (λ answer. answer ≡ Spent → ⊥) }
 {
     // What is said of searches is said of a guide, and this says that the value is one.
     let _side = guide.side();
@@ -75,16 +72,13 @@ pub fn refute_part_by<R: Threads + Sync, G: Gate + Sync>(
     requires { IsStart guide.now.bundle start.now }
 
     // Refuted: the least solution of fewer moves, if there is one, isn't of the part, and the search of the part fails with so
-    // many boards, within the budget. Solved: these moves solve the board, and are fewer. Spent: where the search of the part
-    // fails, it expands more boards than the budget.
+    // many boards, within the budget. Solved: these moves solve the board, and are fewer. Spent: the search of the part has
+    // more boards than the budget.
     ensures answer { IfOk result (IsAnswerOfPart guide.now claim.now.part start.now.board claim.now.bound budget) }
 
     // It is refuted wherever the search of the part fails within the budget.
     ensures within { (boards : ℕ) → SearchOfPartFails guide.now claim.now.part claim.now.bound start.now.board boards
         → boards ≤ budget → IfOk result (λ answer. answer ≡ Refuted boards) }
-
-    // A budget that is large enough is never spent.
-    ensures enough { most_boards claim.now.bound ≤ budget → IfOk result (λ answer. answer ≡ Spent → ⊥) }
 {
     // What is said of searches is said of a guide, and this says that the value is one.
     let _side = guide.side();
@@ -105,7 +99,7 @@ fn search_by<R: Threads + Sync, G: Gate + Sync>(
     workers: &Workers<'_, R, G>,
 ) -> Result<SearchAnswer, AllocError>
     requires { IsStart task.now.guide.now.bundle task.now.start.now }
-    ensures { IfOk result (IsPartAnswer (search_fails task.now) (most_boards task.now.bound)
+    ensures { IfOk result (IsPartAnswer (search_counts task.now)
         (solves_first task.now) budget) }
 {
     let Some(first) = task.first() else {
@@ -132,7 +126,7 @@ fn search_frontier<R: Threads + Sync, G: Gate + Sync>(
 ) -> Result<SearchAnswer, AllocError>
     requires first { IsFirst task.now first }
     requires led { IsLed task.now first }
-    ensures { IfOk result (IsPartAnswer (search_fails task.now) (most_boards task.now.bound)
+    ensures { IfOk result (IsPartAnswer (search_counts task.now)
         (solves_first task.now) budget) }
 {
     let frontier = frontier_of(task, first, workers.count, workers.alloc)?;

@@ -1,12 +1,14 @@
-use Rattle.std.proofs.Common.{◌∙◌, ap}
-use Rattle.pdb_prove.proofs.ReadyLemmas.{each_side}
+use Rattle.std.proofs.Common.{subst, sym}
+use Rattle.pdb_prove.specs.Steps.{PrunesFor}
+use Rattle.pdb_prove.proofs.ReadyLemmas.{each_side, reversals_prune}
 use Rattle.pdb_prove.proofs.ready.ready_with.Goals as goal
 
 -- the boards of the claims and the automaton of reversals have the side of the bundle
 pub invariant_of-result : goal.invariant_of-result
 invariant_of-result c = record {
   posed = rw c.as_slice-in-None.ensures.value at c.in_ok-starts-in-None.ensures;
-  one_side = ap (λ a. a.side) c.in_ok-reversals-in-None.ensures.value ∙ c.side.ensures.side;
+  one_side = subst (λ n. PrunesFor n c.in_ok-reversals-in-None.reversals) c.side.ensures.side
+      (subst (PrunesFor c.side.result) (sym c.in_ok-reversals-in-None.ensures.value) (reversals_prune c.side.result));
 }
 
 -- where no board has another side, the claims and the bundle are ready to be answered

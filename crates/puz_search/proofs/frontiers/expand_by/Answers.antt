@@ -1,9 +1,8 @@
-use Rattle.std.proofs.Common.{◌≡◌, false, true, IfNone, IfSome, inr, subst, sym, arith}
+use Rattle.std.proofs.Common.{◌≡◌, false, true, IfNone, IfSome, inr, subst, sym}
 use Rattle.puz_walk.specs.Walks.{IsClosed, IsOpen}
 use Rattle.puz_board.specs.Boards.{IsGoal}
 use Rattle.puz_search.specs.Frontiers.{Adds}
-use Rattle.puz_search.specs.Nodes.{node_fails, walk_to}
-use Rattle.puz_search.specs.Searches.{most_boards}
+use Rattle.puz_search.specs.Nodes.{node_counts, walk_to}
 use Rattle.puz_search.proofs.CountLemmas.{adds_none, adds_one}
 use Rattle.puz_search.proofs.NodeLemmas.{node_closed, opened_adds}
 use Rattle.puz_search.proofs.frontiers.expand_by.Goals as goal
@@ -14,15 +13,15 @@ returns-in_default g c =
     let s = c.args.task.now in
     let node = c.args.node in
     let closed = subst (λ o. IfNone o (IsClosed s.guide.now.bundle node.board node.bound)) c.in_default.is c.requires.walk.1 in
-    adds_none s (node_fails s node) (most_boards node.bound) c.args.next.now.items (node_closed s node (inr closed))
+    adds_none s (node_counts s node) c.args.next.now.items (node_closed s node (inr closed))
 
 -- the node of a goal board is added as it is, and not expanded
 pub returns-then-is_goal : goal.returns-then-is_goal
 returns-then-is_goal g c =
     let s = c.args.task.now in
     let node = c.args.node in
-    subst (Adds s (node_fails s node) (most_boards node.bound) 0 c.args.next.now.items) (sym c.in_ok-push.ensures.items)
-    (adds_one s (node_fails s node) (most_boards node.bound) c.args.next.now.items node (λ n. (λ h. h, λ h. h)) (omega arith) c.requires.led)
+    subst (Adds s (node_counts s node) 0 c.args.next.now.items) (sym c.in_ok-push.ensures.items)
+    (adds_one s (node_counts s node) c.args.next.now.items node (λ count n. (λ h. h, λ h. h)) c.requires.led)
 
 -- for an open node those after its four moves are added, and its own board is expanded
 pub returns : goal.returns

@@ -1,5 +1,5 @@
 use Rattle.std.proofs.Common.{◌≤◌, [], length}
-use Rattle.puz_search.specs.Frontiers.{Adds, all_fail, most_of}
+use Rattle.puz_search.specs.Frontiers.{Adds, all_counts}
 use Rattle.puz_search.proofs.frontiers.next_level.Given as goal
 
 -- the added nodes are those for the nodes taken so far, and no more boards were expanded than these
@@ -7,6 +7,6 @@ abbrev pub invariant-loop-node : goal.invariant-loop-node
 invariant-loop-node l = record {
   next : goal.iterator-loop-node.can_next l.node-iterator;
   finite : goal.iterator-loop-node.is_finite l.node-iterator;
-  adds : Adds l.task (all_fail l.task l.yielded) (most_of l.yielded) l.expanded [] l.next.items;
+  adds : Adds l.task (all_counts l.task l.yielded) l.expanded [] l.next.items;
   few : l.expanded ≤ length l.yielded;
 }

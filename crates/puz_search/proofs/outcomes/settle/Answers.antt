@@ -1,6 +1,7 @@
 use Rattle.std.proofs.Common.{◌-◌, ◌<◌, length, take, sym, subst, arith}
 use Rattle.std.specs.Prelude.{slice_index_or}
-use Rattle.puz_search.specs.Frontiers.{IsOutcome, all_fail}
+use Rattle.puz_search.specs.Frontiers.{IsOutcome, all_counts}
+use Rattle.puz_search.specs.Prefixes.{at_least}
 use Rattle.puz_search.specs.declared.outcomes.JobOutcome.TheVariants.{Refuted}
 use Rattle.puz_search.proofs.FrontierLemmas.{push_at, settled_more, solved_in, spent_in}
 use Rattle.puz_search.proofs.outcomes.settle.Goals as goal
@@ -26,8 +27,8 @@ pub returns-in-Spent : goal.returns-in-Spent
 returns-in-Spent c =
     let low : c.loop-at.at < length c.args.nodes.now = omega arith in
     spent_in c.args.task.now c.args.nodes.now c.loop-at.at c.index-nodes-at.result low c.index-nodes-at.is
-    (c.args.budget - c.loop-at.left) c.loop-at.left c.args.budget c.loop-at.invariant.done (omega arith)
-    c.in-Spent.ensures.0 c.in-Spent.ensures.1
+    (c.args.budget - c.loop-at.left) c.loop-at.left c.args.budget (c.loop-at.invariant.done at_least) (omega arith)
+    c.in-Spent.ensures.0 c.in-Spent.ensures.1 c.in-Spent.ensures.2
 
 -- where one more node is refuted, the nodes so far fail with what was spent
 pub loop-at-preserved : goal.loop-at-preserved
@@ -40,7 +41,7 @@ loop-at-preserved c =
     let few = c.in-Refuted.ensures.1 in
     record {
       left = omega arith;
-      done = subst (λ xs. all_fail s xs (c.args.budget - (c.loop-at.left - boards))) (sym (push_at nodes at c.index-nodes-at.result low c.index-nodes-at.is))
+      done = λ count. subst (λ xs. all_counts s xs count (c.args.budget - (c.loop-at.left - boards))) (sym (push_at nodes at c.index-nodes-at.result low c.index-nodes-at.is))
           (settled_more s (take at nodes) c.index-nodes-at.result (c.args.budget - c.loop-at.left) boards
-          (c.args.budget - (c.loop-at.left - boards)) c.loop-at.invariant.done c.in-Refuted.ensures.0 (omega arith));
+          (c.args.budget - (c.loop-at.left - boards)) c.loop-at.invariant.done c.in-Refuted.ensures.0 (omega arith) count);
     }
