@@ -1,3 +1,4 @@
 pub mod KeptLemmas
 pub mod LetterLemmas
 mod MakerLemmas
+mod ThresholdLemmas

@@ -2,12 +2,12 @@
 //! shortest.
 #![tactic(auto)]
 
-mod given_up;
 mod laws;
 mod made;
 mod make_table;
 mod search_inputs;
 mod searches_alone;
+mod shortest;
 mod solutions;
 mod solve;
 mod spared;

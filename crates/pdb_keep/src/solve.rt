@@ -16,9 +16,10 @@ ghost use Rattle.pdb_verdict.specs.declared.verdicts.Fault.TheVariants as fault;
 ghost use Rattle.pdb_keep.specs.Solve.{IsSearchable, TellsSearch, letters_of, reply_to_search, searched, solve_plan};
 ghost use Rattle.pdb_keep.specs.Steps.{CameTo, HasItsMoves, IsGivenUp, IsSearchAnswer};
 
-use crate::given_up::cause_of;
 use crate::made::Made;
 use crate::search_inputs::{Solving, with_bytes};
+use crate::searches_alone::SearchesAlone;
+use crate::shortest::find_shortest;
 use crate::solutions::lines_on;
 use crate::spared::spared_by_log;
 use log_check::LogRefusal;
@@ -29,11 +30,14 @@ use pdb_run::{
 };
 use pdb_verdict::{Fault, TableFiles, given_up, optimum_over, over_tables, settled, told};
 use puz_board::{Board, BoardFault};
-use puz_make::{Found, solve_watched};
+use puz_make::{MakeFault, is_out_of_reach, log_of};
 use set_sum::Bundle;
 use std::sync::Wait;
 use std::thread::Threads;
 use work_run::{Gate, Workers};
+
+/// The least boards of a search whose tree may be too large for a log: each has at most four nodes after it.
+const MANY_BOARDS: u64 = 1 << 28;
 
 /// A whole run of `solve`, whoever checks the tables and the log: at most its budget of boards is expanded, and the log is kept
 /// once it and the moves are found to prove an optimum. That something can be kept there, and neither an input nor a table is
@@ -202,7 +206,15 @@ fn search_over<H: Threads + Wait + Sync, G: Gate + Sync>(
     }))
 }
 
-/// What a search finds, unchecked; nothing where the maker finds that it is wrong, or gives up without a cause.
+/// The moves and the log that are made for a board, unchecked.
+#[derive(Drop)]
+struct Found {
+    moves: Vec<u8>,
+    log: Vec<u8>,
+}
+
+/// A shortest solution and its log, unchecked; nothing where the maker finds that it is wrong. A board that is out of reach isn't
+/// searched. No worker passes the gate, which is told of each search.
 fn find<H: Threads + Sync, G: Gate + Sync>(
     bundle: &Bundle<'_>,
     board: &Board,
@@ -212,11 +224,20 @@ fn find<H: Threads + Sync, G: Gate + Sync>(
     requires { side_of board.now ≡ bundle.now.side }
     ensures { IfErr result (IsGivenUp bundle.now board.now budget) }
 {
-    match solve_watched(workers.alloc, bundle, board, budget, workers.gate) {
-        Ok(found) => Ok(Some(found)),
-        Err(fault) => match cause_of(bundle, board, budget, fault, workers)? {
-            Some(cause) => Err(cause),
-            None => Ok(None),
-        },
+    if is_out_of_reach(bundle, board) {
+        return Err(Fault::K2);
+    }
+    let gate = SearchesAlone { gate: workers.gate };
+    let workers = &Workers::new(workers.rt, workers.alloc, workers.count, &gate);
+    let Some(shortest) = find_shortest(bundle, board, budget, workers)? else {
+        return Ok(None);
+    };
+    let mut moves = Vec::new(workers.alloc);
+    moves.extend_from_slice(shortest.letters.as_slice())?;
+    match log_of(bundle, board, shortest.count, workers) {
+        Ok(log) => Ok(Some(Found { moves, log })),
+        Err(MakeFault::K5) if shortest.boards >= MANY_BOARDS => Err(Fault::K5),
+        Err(MakeFault::Memory) => Err(Fault::Memory),
+        Err(_) => Ok(None),
     }
 }

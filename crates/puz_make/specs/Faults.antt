@@ -2,7 +2,7 @@
 use Rattle.std.specs.Prelude.{⊤, ℕ, ◌⊎◌, List, true}
 use Rattle.set_sum.specs.Bundles.{SaysAtLeast, ShownBundle}
 use Rattle.tab_make.specs.declared.faults.MakeFault.{MakeFault}
-use Rattle.tab_make.specs.declared.faults.MakeFault.TheVariants.{K1, K2, K5, Memory, Wrong}
+use Rattle.tab_make.specs.declared.faults.MakeFault.TheVariants.{K5, Memory, Wrong}
 pub use Rattle.tab_make.specs.Faults.{IsBuildFault}
 use Rattle.puz_make.specs.Solvable.{HasTheBlanksParity}
 
@@ -11,15 +11,9 @@ use Rattle.puz_make.specs.Solvable.{HasTheBlanksParity}
 abbrev pub IsOutOfReach : ShownBundle → List ℕ → Type 0
 IsOutOfReach v b = (¬ HasTheBlanksParity b) ⊎ ((set : ℕ) × SaysAtLeast v true set b 256)
 
--- a search stops for this alone: the budget is used up, the log would be too long, there isn't the memory, or the maker is wrong
-abbrev pub IsSearchStop : MakeFault → Type 0
-IsSearchStop K1 = ⊤
-IsSearchStop K5 = ⊤
-IsSearchStop Memory = ⊤
-IsSearchStop Wrong = ⊤
-IsSearchStop fault = ⊥
-
--- no log is made for this alone: the board is out of reach, or its search stops
-abbrev pub IsSearchFault : ShownBundle → List ℕ → MakeFault → Type 0
-IsSearchFault v b K2 = IsOutOfReach v b
-IsSearchFault v b fault = IsSearchStop fault
+-- no log is written for this alone: it would be too long, there isn't the memory, or the maker is wrong
+abbrev pub IsLogFault : MakeFault → Type 0
+IsLogFault K5 = ⊤
+IsLogFault Memory = ⊤
+IsLogFault Wrong = ⊤
+IsLogFault fault = ⊥

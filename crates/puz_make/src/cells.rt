@@ -1,9 +1,8 @@
-//! Cells of a board, and its tiles.
+//! Cells of a board.
 
-ghost use Rattle.std.specs.Prelude.{◌≡◌, ◌<◌, ◌*◌};
+ghost use Rattle.std.specs.Prelude.{◌<◌};
 
-use puz_board::masks::{has_cell, with};
-use puz_board::{Board, Side};
+use puz_board::Board;
 
 /// How many cells a board has at most, and so numbers.
 const MOST_CELLS: u8 = 25;
@@ -29,14 +28,6 @@ impl Cell {
         }
     }
 
-    /// The cell of a number on the boards of a side.
-    pub(crate) fn on(side: Side, number: u8) -> Cell
-        requires { number < side * side }
-    {
-        let _cells = side.cells();
-        Cell { number }
-    }
-
     /// The cell of a board's blank.
     pub(crate) fn of_blank(board: &Board) -> Cell {
         let _side = board.side();
@@ -52,48 +43,6 @@ impl Cell {
     }
 
     /// Its place among what there is of all cells.
-    #[inline]
-    pub(crate) fn place(self) -> usize
-        ensures { result < 25 }
-    {
-        usize::from(self.number)
-    }
-
-    /// The mask of this cell alone.
-    pub(crate) fn mask(self) -> u32 {
-        with(0, self.number)
-    }
-
-    /// Whether a mask has it.
-    #[inline]
-    pub(crate) fn is_in(self, mask: u32) -> bool {
-        has_cell(mask, self.number)
-    }
-}
-
-/// A tile of a board, or its blank, whose number is 0.
-#[derive(Clone, Copy)]
-pub(crate) struct Tile {
-    number: u8,
-    ghost is_on_a_board: { number < 25 },
-}
-
-impl Tile {
-    /// The blank.
-    #[inline]
-    pub(crate) fn blank() -> Tile {
-        Tile { number: 0 }
-    }
-
-    /// The tile of a number on the boards of a side.
-    pub(crate) fn on(side: Side, number: u8) -> Tile
-        requires { number < side * side }
-    {
-        let _cells = side.cells();
-        Tile { number }
-    }
-
-    /// Its place among what there is of all tiles.
     #[inline]
     pub(crate) fn place(self) -> usize
         ensures { result < 25 }

@@ -1,42 +1,18 @@
-//! What sets say of a board: sums of entries, and the leaves of trees.
+//! What sets say of a board, and the leaves of trees.
 
-use crate::set_indices::SetIndex;
+ghost use Rattle.std.specs.Prelude.{◌≡◌, ◌<◌, length};
+
 use log_file::tree_bytes::{FIRST_LEAF, FIRST_PARITY_LEAF};
-use tab_file::NO_WAY_HOME;
+use set_sum::Sums;
+use tab_rule::Count;
 
-/// The sum of a set that says that there is no way home: more than ever remains.
+/// What stands for the sum of a set that says that there is no way home: more than ever remains.
 const NEVER: u16 = 1 << 15;
-
-/// The sum of the entries of a set's members.
-#[derive(Clone, Copy)]
-pub(crate) struct Sum {
-    moves: u16,
-}
-
-impl Sum {
-    /// That of no entries.
-    pub(crate) fn none() -> Sum {
-        Sum { moves: 0 }
-    }
-
-    /// The sum with an entry in place of one that it has. Where the new one says that there is no way home, the sum says so
-    /// too. A folded table may say so of a board that moves lead to, although it didn't of the first.
-    #[inline]
-    pub(crate) fn with(self, entry: u8, before: u8) -> Sum {
-        let moves = self
-            .moves
-            .wrapping_add(u16::from(entry))
-            .wrapping_sub(u16::from(before));
-        Sum {
-            moves: if entry == NO_WAY_HOME { NEVER } else { moves },
-        }
-    }
-}
 
 /// What a set says of a board.
 #[derive(Clone, Copy)]
 pub(crate) struct Leaf {
-    pub(crate) set: SetIndex,
+    pub(crate) set: u8,
     /// A number of moves that no solution is below.
     sum: u16,
     /// The least number from the sum on that has the parity of all solutions.
@@ -44,46 +20,58 @@ pub(crate) struct Leaf {
 }
 
 impl Leaf {
-    /// One by which a set says nothing.
-    #[inline]
-    pub(crate) fn none(set: SetIndex) -> Leaf {
+    /// What a set says.
+    fn of(sums: &mut Sums<'_>, set: u8) -> Leaf
+        requires { set < length sums.old.bundle.sets }
+        ensures set { result.set ≡ set }
+        ensures same { sums.new ≡ sums.old }
+    {
+        let parity = u16::from(sums.blank_parity());
+        let sum = match sums.sum(set) {
+            Count::Finite(sum) => sum,
+            Count::Never => NEVER,
+        };
         Leaf {
             set,
-            sum: 0,
-            raised: 0,
+            sum,
+            raised: sum.saturating_add((sum ^ parity) & 1),
         }
     }
 
-    /// What a set says by its sum of a board whose solutions have this parity: 0 or 1.
-    #[inline]
-    pub(crate) fn new(set: SetIndex, sum: Sum, parity: u16) -> Leaf {
-        let odd = (sum.moves ^ parity) & 1;
-        Leaf {
-            set,
-            sum: sum.moves,
-            raised: sum.moves.wrapping_add(odd),
+    /// What the set says that says the most, where one set is asked first and then the others in their order. Where two say as much
+    /// it is the one that was asked before. No more are asked once one says enough.
+    pub(crate) fn best(sums: &mut Sums<'_>, first: u8, enough: u16) -> Leaf
+        requires { first < length sums.old.bundle.sets }
+        ensures set { result.set < length sums.old.bundle.sets }
+        ensures same { sums.new ≡ sums.old }
+    {
+        let mut best = Leaf::of(sums, first);
+        for set in 0..sums.sets() {
+            if best.raised >= enough {
+                return best;
+            }
+            if set != first {
+                let leaf = Leaf::of(sums, set);
+                if leaf.raised > best.raised {
+                    best = leaf;
+                }
+            }
         }
+        best
     }
 
     /// Whether it is a leaf by parity, where it cuts off a board from which so many moves are to be refuted.
-    #[inline]
-    pub(crate) fn is_by_parity(&self, remaining: u16) -> bool {
-        self.sum < remaining
+    fn is_by_parity(&self, bound: u16) -> bool {
+        self.sum < bound
     }
 
     /// The byte of the leaf in a tree, where it cuts off a board from which so many moves are to be refuted.
-    pub(crate) fn byte(&self, remaining: u16) -> u8 {
-        leaf_byte(self.set.number(), self.is_by_parity(remaining))
+    pub(crate) fn byte(&self, bound: u16) -> u8 {
+        let first = if self.is_by_parity(bound) {
+            FIRST_PARITY_LEAF
+        } else {
+            FIRST_LEAF
+        };
+        first.saturating_add(self.set)
     }
-}
-
-/// The byte of a leaf by a set, plain or by parity.
-#[inline]
-pub(crate) fn leaf_byte(set: u8, is_by_parity: bool) -> u8 {
-    let first = if is_by_parity {
-        FIRST_PARITY_LEAF
-    } else {
-        FIRST_LEAF
-    };
-    first.saturating_add(set)
 }

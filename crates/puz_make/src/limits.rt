@@ -1,11 +1,11 @@
-//! How large what a search keeps may be.
+//! How large what is written may be.
 
 use log_file::{BOUND_AND_LENGTH, HEADER_LEN, MOST_BYTES, MOST_LEMMAS};
 
 /// The most bytes before the tree of a log of one lemma: boards of side 5 have 25 numbers.
 const MOST_BEFORE_TREE: usize = HEADER_LEN + 25 + BOUND_AND_LENGTH;
 
-/// How large what a search keeps may be. A test may lower these.
+/// How large what is written may be. A test may lower these.
 #[derive(Clone, Copy, Debug)]
 pub struct Limits {
     /// The most lemmas of a log: from 1 on.
@@ -14,8 +14,6 @@ pub struct Limits {
     pub one_lemma_below: usize,
     /// The most bytes of the tree of a log.
     pub tree: usize,
-    /// The most bytes that a tree may have in a log, where it is written before it is known whether a log needs it.
-    pub early_tree: usize,
 }
 
 impl Limits {
@@ -24,6 +22,5 @@ impl Limits {
         lemmas: MOST_LEMMAS,
         one_lemma_below: 1 << 16,
         tree: MOST_BYTES - MOST_BEFORE_TREE,
-        early_tree: 1 << 28,
     };
 }

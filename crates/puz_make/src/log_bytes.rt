@@ -1,7 +1,7 @@
 //! The bytes of a log, lemma by lemma.
 
 ghost use Rattle.std.specs.Prelude.{IfErr};
-ghost use Rattle.puz_make.specs.Faults.{IsSearchStop};
+ghost use Rattle.puz_make.specs.Faults.{IsLogFault};
 
 use crate::keys::Tiles;
 use log_file::{BOUND_AND_LENGTH, NEWEST_VERSION, SIGNATURE};
@@ -65,7 +65,7 @@ impl LogBytes {
         bound: u8,
         length: usize,
     ) -> Result<u32, MakeFault>
-        ensures { IfErr result IsSearchStop }
+        ensures { IfErr result IsLogFault }
     {
         let number = number_of(self.starts.len())?;
         let length = number_of(length)?;
@@ -84,7 +84,7 @@ impl LogBytes {
 
     /// Adds bytes to the lemma. That the log may have so many was seen before.
     pub(crate) fn add(&mut self, bytes: &[u8]) -> Result<(), MakeFault>
-        ensures { IfErr result IsSearchStop }
+        ensures { IfErr result IsLogFault }
     {
         if self.bytes.len().saturating_add(bytes.len()) > self.most {
             return Err(MakeFault::Wrong);
@@ -95,7 +95,7 @@ impl LogBytes {
 
     /// The log.
     pub(crate) fn finish(self) -> Result<Vec<u8>, MakeFault>
-        ensures { IfErr result IsSearchStop }
+        ensures { IfErr result IsLogFault }
     {
         let LogBytes {
             mut bytes,
@@ -112,7 +112,7 @@ impl LogBytes {
 
 /// A number that a log has: it has room for it, since it has fewer bytes.
 fn number_of(count: usize) -> Result<u32, MakeFault>
-    ensures { IfErr result IsSearchStop }
+    ensures { IfErr result IsLogFault }
 {
     u32::try_from(count).map_err(|_| MakeFault::Wrong)
 }

@@ -1,33 +1,29 @@
 //! Small trees that are searched for, with citations of lemmas that there are.
 
-use crate::cells::Cell;
-use crate::children::Entries;
+ghost use Rattle.std.specs.Prelude.{◌≡◌};
+ghost use Rattle.puz_board.specs.Boards.{side_of};
+
 use crate::keys::Tiles;
+use crate::leaves::Leaf;
 use crate::lemmas::Lemmas;
-use crate::positions::SummedBoard;
+use crate::positions::Steps;
 use crate::trees::Branch;
 use log_file::tree_bytes::{BRANCH, CITATION};
-use puz_board::Board;
+use puz_board::{Board, MOVES, Move};
+use set_sum::{Bundle, Sums};
 use std::alloc::{AllocError, Global};
 
-/// A move of the blank.
-#[derive(Clone, Copy)]
-struct Passed {
-    /// The cell that it left.
-    from: Cell,
-    /// The cell that it came to.
-    to: Cell,
-    /// What the sets said before.
-    before: Option<Entries>,
-}
+/// All sets are asked: none says so much.
+const ALL: u16 = u16::MAX;
 
 /// A board that follows a walk, and trees that refute boards beside it.
 #[derive(Drop)]
 pub(crate) struct Refuter<'a> {
-    position: SummedBoard<'a>,
+    sums: Sums<'a>,
     tiles: Tiles,
+    steps: Steps,
     /// The moves from the root to the board.
-    path: Vec<Passed>,
+    path: Vec<Move>,
     /// The bytes of the trees, the older ones first.
     pub(crate) trees: Vec<u8>,
     /// How many bytes there may be.
@@ -35,11 +31,14 @@ pub(crate) struct Refuter<'a> {
 }
 
 impl<'a> Refuter<'a> {
-    /// One that stands on the root's board, where the position is.
-    pub(crate) fn new(alloc: Global, position: SummedBoard<'a>, board: &Board) -> Refuter<'a> {
+    /// One that stands on the root's board.
+    pub(crate) fn new(alloc: Global, bundle: &'a Bundle<'a>, board: &Board) -> Refuter<'a>
+        requires { side_of board.now ≡ bundle.now.side }
+    {
         Refuter {
-            position,
+            sums: Sums::new(bundle, board),
             tiles: Tiles::new(board),
+            steps: Steps::on(board.side()),
             path: Vec::new(alloc),
             trees: Vec::new(alloc),
             most: 0,
@@ -58,15 +57,13 @@ impl<'a> Refuter<'a> {
         let Some(branch) = branches.last() else {
             return Ok(false);
         };
-        let Some(came_from) = branch.came_from else {
+        let Some(arriving) = branch.arriving else {
             return Ok(false);
         };
         self.follow(branches)?;
         let start = self.trees.len();
         self.most = start.saturating_add(most);
-        let before = self.slide(came_from);
-        let is_refuted = self.refute(lemmas, branch.blank, u16::from(remaining))?;
-        self.slide_back(branch.blank, &before);
+        let is_refuted = self.refute_after(lemmas, arriving.reverse(), remaining)?;
         if !is_refuted {
             self.trees.truncate(start);
         }
@@ -79,17 +76,14 @@ impl<'a> Refuter<'a> {
             .path
             .iter()
             .zip(branches.iter().skip(1))
-            .take_while(|(passed, branch)| passed.to == branch.blank)
+            .take_while(|(mv, branch)| branch.arriving == Some(**mv))
             .count();
         self.go_back(shared);
         for branch in branches.iter().skip(1).skip(shared) {
-            let from = self.tiles.blank;
-            let before = self.slide(branch.blank);
-            self.path.push(Passed {
-                from,
-                to: branch.blank,
-                before,
-            })?;
+            if let Some(mv) = branch.arriving {
+                self.go(mv);
+                self.path.push(mv)?;
+            }
         }
         Ok(())
     }
@@ -97,44 +91,66 @@ impl<'a> Refuter<'a> {
     /// Takes moves back until so many are left.
     fn go_back(&mut self, left: usize) {
         for _ in left..self.path.len() {
-            if let Some(passed) = self.path.pop() {
-                self.slide_back(passed.from, &passed.before);
+            if let Some(mv) = self.path.pop() {
+                self.go(mv.reverse());
             }
         }
     }
 
-    /// Adds a tree that refutes so many moves from the board, to which the blank came from a cell. Where it isn't found, what
-    /// was added is no tree.
-    fn refute(
-        &mut self,
-        lemmas: &Lemmas,
-        came_from: Cell,
-        remaining: u16,
-    ) -> Result<bool, AllocError> {
-        let leaf = self.position.best_leaf();
-        if leaf.raised >= remaining {
-            return self.add(&[leaf.byte(remaining)]);
+    /// Makes a move.
+    fn go(&mut self, mv: Move) {
+        if self.sums.step(mv).is_some() {
+            self.slide(mv);
         }
-        let bound = u8::try_from(remaining).unwrap_or(u8::MAX);
-        if let Some(number) = lemmas.citable(&self.tiles, bound) {
+    }
+
+    /// Moves the tiles alone.
+    fn slide(&mut self, mv: Move)
+        ensures { self.new.sums ≡ self.old.sums }
+    {
+        if let Some(to) = self.steps.after(self.tiles.blank, mv) {
+            self.tiles.slide(to);
+        }
+    }
+
+    /// Adds a tree that refutes so many moves from the board to which a move leads, if there is one. The board goes there and back.
+    #[cycle(refute)]
+    fn refute_after(&mut self, lemmas: &Lemmas, mv: Move, remaining: u8) -> Result<bool, AllocError>
+        ensures { self.new.sums ≡ self.old.sums }
+    {
+        let Some(step) = self.sums.step(mv) else {
+            return Ok(true);
+        };
+        let from = self.tiles.blank;
+        self.slide(mv);
+        let is_refuted = self.refute(lemmas, mv, remaining);
+        self.tiles.slide(from);
+        self.sums.take_back(&step);
+        is_refuted
+    }
+
+    /// Adds a tree that refutes so many moves from the board, to which a move led. Where it isn't found, what was added is no tree.
+    #[cycle(refute)]
+    fn refute(&mut self, lemmas: &Lemmas, arriving: Move, remaining: u8) -> Result<bool, AllocError>
+        ensures { self.new.sums ≡ self.old.sums }
+    {
+        // A bundle has a set.
+        let _sets = self.sums.sets();
+        let leaf = Leaf::best(&mut self.sums, 0, ALL);
+        if leaf.raised >= u16::from(remaining) {
+            return self.add(&[leaf.byte(u16::from(remaining))]);
+        }
+        if let Some(number) = lemmas.citable(&self.tiles, remaining) {
             return Ok(self.add(&[CITATION])? && self.add(&number.to_be_bytes())?);
         }
-        if leaf.raised == 0 && self.position.is_goal() || !self.add(&[BRANCH])? {
+        if leaf.raised == 0 && self.sums.is_goal() || !self.add(&[BRANCH])? {
             return Ok(false);
         }
-        let blank = self.tiles.blank;
-        let steps = self.position.steps();
-        for step in &steps {
-            let Some(to) = *step else {
-                continue;
-            };
-            if to == came_from {
+        for mv in &MOVES {
+            if *mv == arriving.reverse() {
                 continue;
             }
-            let before = self.slide(to);
-            let is_refuted = self.refute(lemmas, blank, remaining - 1)?;
-            self.slide_back(blank, &before);
-            if !is_refuted {
+            if !self.refute_after(lemmas, *mv, remaining - 1)? {
                 return Ok(false);
             }
         }
@@ -142,23 +158,13 @@ impl<'a> Refuter<'a> {
     }
 
     /// Adds bytes, if there may be so many.
-    fn add(&mut self, bytes: &[u8]) -> Result<bool, AllocError> {
+    fn add(&mut self, bytes: &[u8]) -> Result<bool, AllocError>
+        ensures { self.new.sums ≡ self.old.sums }
+    {
         if self.trees.len().saturating_add(bytes.len()) > self.most {
             return Ok(false);
         }
         self.trees.extend_from_slice(bytes)?;
         Ok(true)
-    }
-
-    /// Moves the blank. Answers what the sets said before.
-    fn slide(&mut self, to: Cell) -> Option<Entries> {
-        self.tiles.slide(to);
-        self.position.slide(to)
-    }
-
-    /// Takes a move of the blank from this cell back.
-    fn slide_back(&mut self, from: Cell, before: &Option<Entries>) {
-        self.tiles.slide(from);
-        self.position.slide_back(from, before);
     }
 }

@@ -5,13 +5,16 @@ ghost use Rattle.puz_board.specs.Boards.{side_of};
 ghost use Rattle.set_sum.specs.Bundles.{SaysAtLeast};
 ghost use Rattle.set_sum.specs.Raised.{told_of};
 ghost use Rattle.tab_rule.specs.declared.tables.Count.TheVariants.{Finite};
+ghost use Rattle.puz_make.specs.Faults.{IsOutOfReach};
 ghost use Rattle.puz_make.specs.Solvable.{HasTheBlanksParity, inversions};
 
 use crate::positions::numbers_of;
-use crate::searches::GREATEST_BOUND;
 use puz_board::Board;
 use set_sum::Bundle;
 use tab_rule::Count;
+
+/// The greatest bound that a lemma claims.
+const GREATEST_BOUND: u8 = 255;
 
 /// Whether a board has a solution.
 ///
@@ -25,8 +28,18 @@ pub fn is_solvable(board: &Board) -> bool
     inversion_parity(&numbers[..cells]) == usize::from(board.blank_parity())
 }
 
+/// Whether no log proves how few moves solve a board: by parity it has no solution, or a set says that it has none of 255 moves or
+/// fewer.
+pub fn is_out_of_reach(bundle: &Bundle<'_>, board: &Board) -> bool
+    requires { side_of board.now ≡ bundle.now.side }
+    ensures reach { IsTrue result → IsOutOfReach bundle.now board.now }
+    ensures unsolvable { (HasTheBlanksParity board.now → ⊥) → IsTrue result }
+{
+    !is_solvable(board) || has_too_great_a_sum(bundle, board)
+}
+
 /// Whether a set says of a board that it has no solution, or, by parity, none of 255 moves or fewer.
-pub(crate) fn has_too_great_a_sum(bundle: &Bundle<'_>, board: &Board) -> bool
+fn has_too_great_a_sum(bundle: &Bundle<'_>, board: &Board) -> bool
     requires { side_of board.now ≡ bundle.now.side }
     ensures { IsTrue result → (set : ℕ) × SaysAtLeast bundle.now true set board.now 256 }
 {

@@ -1,10 +1,10 @@
 //! Walks over the tree that a search wrote, from its first byte to its last.
 
-use crate::cells::{CELLS, Cell};
+use crate::cells::Cell;
 use crate::keys::Tiles;
-use crate::positions::steps_of;
+use crate::positions::{Steps, takes_back};
 use log_file::tree_bytes::BRANCH;
-use puz_board::{Board, MOVES};
+use puz_board::{Board, MOVES, Move};
 use std::alloc::{AllocError, Global};
 
 /// The byte of a branch with a long subtree. No log has it.
@@ -30,8 +30,10 @@ pub(crate) struct Branch {
     pub(crate) at: usize,
     /// The cell of the blank.
     pub(crate) blank: Cell,
-    /// The cell that the blank came from, if the branch isn't the root.
-    pub(crate) came_from: Option<Cell>,
+    /// The move that led to it, if the branch isn't the root.
+    pub(crate) arriving: Option<Move>,
+    /// The cell that the blank came from.
+    came_from: Cell,
     /// How many of its moves the walk has looked at.
     tried: usize,
 }
@@ -60,8 +62,7 @@ pub(crate) enum TreeStep {
 /// A walk over a tree whose first byte is a branch.
 #[derive(Drop)]
 pub(crate) struct TreeWalk {
-    /// Where the moves lead from each cell, in their order.
-    steps: [[u8; 4]; CELLS],
+    steps: Steps,
     /// The board of the branch that it is in.
     pub(crate) tiles: Tiles,
     /// The branches that it is in, the root first.
@@ -80,11 +81,12 @@ impl TreeWalk {
         branches.push(Branch {
             at: 0,
             blank: tiles.blank,
-            came_from: None,
+            arriving: None,
+            came_from: tiles.blank,
             tried: 0,
         })?;
         Ok(TreeWalk {
-            steps: steps_of(board.side()),
+            steps: Steps::on(board.side()),
             tiles,
             branches,
             at: 1,
@@ -101,20 +103,20 @@ impl TreeWalk {
         if branch.tried >= MOVES.len() {
             return Ok(TreeStep::Done);
         }
-        let to = self.steps[branch.blank.place()][branch.tried];
+        let mv = MOVES[branch.tried];
         branch.tried += 1;
-        let Some(to) = Cell::of(to) else {
+        let Some(to) = self.steps.after(branch.blank, mv) else {
             return Ok(TreeStep::Edge);
         };
-        if branch.came_from == Some(to) {
+        if takes_back(branch.arriving, mv) {
             return Ok(TreeStep::Reverse);
         }
-        self.enter(tree, to)
+        self.enter(tree, mv, to)
     }
 
-    /// Goes to the node to which the blank comes by a move to this cell.
+    /// Goes to the node to which a move leads, where the blank is in this cell.
     #[inline]
-    fn enter(&mut self, tree: &[u8], to: Cell) -> Result<TreeStep, AllocError> {
+    fn enter(&mut self, tree: &[u8], mv: Move, to: Cell) -> Result<TreeStep, AllocError> {
         let at = self.at;
         if at >= tree.len() {
             return Ok(TreeStep::End);
@@ -134,7 +136,8 @@ impl TreeWalk {
         self.branches.push(Branch {
             at,
             blank: to,
-            came_from: Some(self.tiles.blank),
+            arriving: Some(mv),
+            came_from: self.tiles.blank,
             tried: 0,
         })?;
         self.tiles.slide(to);
@@ -145,8 +148,8 @@ impl TreeWalk {
     #[inline]
     pub(crate) fn leave(&mut self) {
         if let Some(branch) = self.branches.pop() {
-            if let Some(came_from) = branch.came_from {
-                self.tiles.slide(came_from);
+            if branch.arriving.is_some() {
+                self.tiles.slide(branch.came_from);
             }
         }
     }

@@ -1,18 +1,15 @@
-//! Tables that are made, and what the maker of logs finds over them.
+//! Tables that are made, and logs that are made over them.
 
 use crate::same::same_for;
 use log_check::{LogFault, check_log};
 use pat_place::Pattern;
-use puz_board::{Board, Side, replay};
-use puz_make::{Found, MakeFault, build, solve};
+use puz_board::{Board, Side};
+use puz_make::{Limits, MakeFault, build, log_within};
 use set_sum::Bundle;
 use std::process::Abort;
 use std::sync::Wait;
 use std::thread::Threads;
-use work_run::OpenGate;
-
-/// More boards than any search here expands.
-pub(crate) const PLENTY: u64 = 100_000_000;
+use work_run::{OpenGate, Workers};
 
 /// The tables that are made for a side and masks.
 pub(crate) fn made<R: Threads + Sync + AllocGlobal + Abort>(
@@ -35,16 +32,18 @@ pub(crate) fn board_of(rt: &impl Abort, numbers: &[u8]) -> Board {
     Board::from_cells(numbers).expect(rt, "a board")
 }
 
-/// What a search over a bundle finds for a board of its side.
-pub(crate) fn found<R: Threads + Wait + AllocGlobal + Abort>(
+/// The log that is made of a board over a bundle of its side, where no solution has fewer moves.
+pub(crate) fn log_made<R: Threads + Sync + AllocGlobal + Abort>(
     rt: &R,
     bundle: &Bundle<'_>,
     numbers: &[u8],
-    budget: u64,
-) -> Result<Found, MakeFault> {
+    moves: u8,
+    limits: &Limits,
+) -> Result<Vec<u8>, MakeFault> {
     let board = board_of(rt, numbers);
     assert!(rt; board.side() == bundle.side());
-    solve(rt.alloc(), bundle, &board, budget)
+    let workers = Workers::new(rt, rt.alloc(), 2, &OpenGate);
+    log_within(bundle, &board, moves, limits, &workers)
 }
 
 /// The bound that a log proves for a board.
@@ -58,27 +57,25 @@ pub(crate) fn bound_of<R: Threads + Wait + AllocGlobal + Abort>(
     check_log(rt, rt.alloc(), bundle, log, &board, 1, &OpenGate)
 }
 
-/// Asserts that what was found solves a board in so many moves, and that its log proves that no fewer do.
+/// Asserts that a log proves that no solution of a board has fewer moves.
 pub(crate) fn expect_proved<R: Threads + Wait + AllocGlobal + Abort>(
     rt: &R,
     bundle: &Bundle<'_>,
     numbers: &[u8],
-    found: &Found,
+    log: &[u8],
     moves: u8,
 ) {
-    let solved = replay(&board_of(rt, numbers), &found.moves);
-    same_for(rt, &solved, &Ok(u16::from(moves)), &numbers);
-    let bound = bound_of(rt, bundle, numbers, &found.log);
+    let bound = bound_of(rt, bundle, numbers, log);
     same_for(rt, &bound, &Ok(moves), &numbers);
 }
 
-/// Asserts that a board is found to be solved in so many moves, and in no fewer.
-pub(crate) fn expect_moves<R: Threads + Wait + AllocGlobal + Abort>(
+/// Asserts that the log that is made of a board proves that no solution has fewer moves.
+pub(crate) fn expect_log<R: Threads + Wait + Sync + AllocGlobal + Abort>(
     rt: &R,
     bundle: &Bundle<'_>,
     numbers: &[u8],
     moves: u8,
 ) {
-    let found = found(rt, bundle, numbers, PLENTY).expect(rt, "a solution");
-    expect_proved(rt, bundle, numbers, &found, moves);
+    let log = log_made(rt, bundle, numbers, moves, &Limits::USUAL).expect(rt, "a log");
+    expect_proved(rt, bundle, numbers, &log, moves);
 }

@@ -11,8 +11,6 @@ mod boards;
 #[cfg(test)]
 mod books;
 #[cfg(test)]
-mod budgets;
-#[cfg(test)]
 mod bundles;
 #[cfg(test)]
 mod cores;
@@ -26,8 +24,6 @@ mod finding;
 mod gates;
 #[cfg(test)]
 mod given;
-#[cfg(test)]
-mod kept_slots;
 #[cfg(test)]
 mod korf_board;
 #[cfg(test)]
@@ -46,6 +42,8 @@ mod meetings;
 mod placements;
 #[cfg(test)]
 mod progress;
+#[cfg(test)]
+mod reach;
 #[cfg(test)]
 mod ring_words;
 #[cfg(test)]

@@ -1,9 +1,9 @@
 //! Logs that the maker writes for boards of each side: the checker takes them.
 
 use crate::bundles::{bundle, bundle_of_made, over_folded, over_one};
-use crate::finding::{PLENTY, board_of, expect_moves, expect_proved, made};
+use crate::finding::{expect_log, expect_proved, log_made, made};
 use crate::same::same;
-use puz_make::{Found, Limits, MakeFault, solve_within};
+use puz_make::Limits;
 use set_sum::Bundle;
 use std::process::Abort;
 use std::sync::Wait;
@@ -20,18 +20,6 @@ pub(crate) const ALWAYS: Limits = Limits {
     one_lemma_below: 0,
     ..Limits::USUAL
 };
-
-/// What a search over a bundle finds within limits.
-pub(crate) fn found_within<R: Threads + Wait + AllocGlobal + Abort>(
-    rt: &R,
-    bundle: &Bundle<'_>,
-    numbers: &[u8],
-    limits: &Limits,
-) -> Result<Found, MakeFault> {
-    let board = board_of(rt, numbers);
-    assert!(rt; board.side() == bundle.side());
-    solve_within(rt.alloc(), bundle, &board, PLENTY, limits)
-}
 
 /// How many lemmas a log has.
 pub(crate) fn lemmas_of(log: &[u8]) -> u32 {
@@ -50,24 +38,25 @@ pub(crate) struct Near<'a> {
 }
 
 /// Asserts that a board has a good log of one lemma, and where its tree is cut into lemmas a good one that is no longer.
-fn expect_logs<R: Threads + Wait + AllocGlobal + Abort>(
+fn expect_logs<R: Threads + Wait + Sync + AllocGlobal + Abort>(
     rt: &R,
     bundle: &Bundle<'_>,
     near: Near<'_>,
 ) {
-    let one = found_within(rt, bundle, near.numbers, &Limits::USUAL).expect(rt, "a solution");
-    expect_proved(rt, bundle, near.numbers, &one, near.moves);
-    let tree = one.log.len().saturating_sub(FRONT + near.numbers.len());
-    same(rt, &(lemmas_of(&one.log), tree), &(1, near.tree));
-    let cut = found_within(rt, bundle, near.numbers, &ALWAYS).expect(rt, "a solution");
-    expect_proved(rt, bundle, near.numbers, &cut, near.moves);
-    assert!(rt; cut.log.len() <= one.log.len(), "{:?}", near.numbers);
+    let (numbers, moves) = (near.numbers, near.moves);
+    let one = log_made(rt, bundle, numbers, moves, &Limits::USUAL).expect(rt, "a log");
+    expect_proved(rt, bundle, numbers, &one, moves);
+    let tree = one.len().saturating_sub(FRONT + numbers.len());
+    same(rt, &(lemmas_of(&one), tree), &(1, near.tree));
+    let cut = log_made(rt, bundle, numbers, moves, &ALWAYS).expect(rt, "a log");
+    expect_proved(rt, bundle, numbers, &cut, moves);
+    assert!(rt; cut.len() <= one.len(), "{:?}", numbers);
 }
 
-/// Asserts that each board of the ring is solved in its fewest moves.
-fn expect_ring<R: Threads + Wait + AllocGlobal + Abort>(rt: &R, bundle: &Bundle<'_>) {
+/// Asserts that each board of the ring has a good log of its fewest moves.
+fn expect_ring<R: Threads + Wait + Sync + AllocGlobal + Abort>(rt: &R, bundle: &Bundle<'_>) {
     for (step, numbers) in RING.iter().enumerate() {
-        expect_moves(rt, bundle, numbers, step.min(12 - step) as u8);
+        expect_log(rt, bundle, numbers, step.min(12 - step) as u8);
     }
 }
 
@@ -145,6 +134,6 @@ fn a_board_of_side_5_has_good_logs(rt: HostRuntime) {
         b"set 0 1 2 3 4\nset 0t\n",
     ];
     for text in texts {
-        expect_moves(&rt, &bundle_of_made(&rt, &files, text), &CORNER, 8);
+        expect_log(&rt, &bundle_of_made(&rt, &files, text), &CORNER, 8);
     }
 }

@@ -1,27 +1,20 @@
-//! What a gate is told while tables are built and solutions are searched for.
+//! What a gate is told while tables are made.
 
-use crate::bundles::{bundle_of_made, over_one};
-use crate::finding::{PLENTY, board_of, made};
-use crate::same::{same, same_for};
+use crate::same::same_for;
 use pat_place::Pattern;
 use puz_board::Side;
-use puz_make::{Found, MakeFault, draft, solve_watched};
-use set_sum::Bundle;
+use puz_make::draft;
 use std::process::Abort;
 use std::sync::atomic::{AtomicU64, Ordering};
 use std::thread::Threads;
-use test_samples::files::{TILE_1, TILES_12, TILES_123};
 use work_run::Gate;
 
 /// Notes what it is told. Nobody passes it.
 #[derive(Drop)]
 struct Told {
     passed: AtomicU64,
-    /// The digits of the bounds of searches.
-    bounds: AtomicU64,
-    /// How many times boards were told, and how many.
+    /// How many times boards were told.
     calls: AtomicU64,
-    boards: AtomicU64,
     /// How many layers were told; the moves, the counts and all counts of the last of them.
     layers: AtomicU64,
     moves: AtomicU64,
@@ -35,9 +28,7 @@ impl Told {
     fn new() -> Told {
         Told {
             passed: AtomicU64::new(0),
-            bounds: AtomicU64::new(0),
             calls: AtomicU64::new(0),
-            boards: AtomicU64::new(0),
             layers: AtomicU64::new(0),
             moves: AtomicU64::new(0),
             counts: AtomicU64::new(0),
@@ -58,16 +49,8 @@ impl Gate for Told {
         self.passed.fetch_add(1, Ordering::SeqCst);
     }
 
-    fn searches(&self, bound: u8) {
-        let digits = of(&self.bounds)
-            .wrapping_mul(10)
-            .wrapping_add(u64::from(bound));
-        self.bounds.store(digits, Ordering::SeqCst);
-    }
-
-    fn expanded(&self, boards: u64) {
+    fn expanded(&self, _boards: u64) {
         self.calls.fetch_add(1, Ordering::SeqCst);
-        self.boards.fetch_add(boards, Ordering::SeqCst);
     }
 
     fn found(&self, moves: u8, counts: u64, all: u64) {
@@ -127,52 +110,4 @@ fn a_gate_is_told_of_each_layer_and_of_all_entries(rt: HostRuntime) {
     told_of_table(&rt, (2, 6), (4, 8, 16), 24);
     told_of_table(&rt, (2, 14), (6, 12, 24), 24);
     told_of_table(&rt, (3, 62), (20, 30_720, 30_720), 60_480);
-}
-
-/// What a search over a bundle finds for a board of its side, of which a gate is told.
-fn found_by<R: Abort + AllocGlobal>(
-    rt: &R,
-    bundle: &Bundle<'_>,
-    numbers: &[u8],
-    budget: u64,
-    gate: &Told,
-) -> Result<Found, MakeFault> {
-    let board = board_of(rt, numbers);
-    assert!(rt; board.side() == bundle.side());
-    solve_watched(rt.alloc(), bundle, &board, budget, gate)
-}
-
-#[test]
-fn a_gate_is_told_of_each_threshold_and_of_all_boards(rt: HostRuntime) {
-    let one = over_one(&rt, &TILE_1);
-    let two = over_one(&rt, &TILES_12);
-    let all = over_one(&rt, &TILES_123);
-    // As many boards as other tests say that a search expands.
-    for (bundle, bounds, boards) in [(&one, 357, 16), (&two, 57, 9), (&all, 7, 6)] {
-        let gate = Told::new();
-        assert!(rt; found_by(&rt, bundle, &[3, 2, 1, 0], PLENTY, &gate).is_ok());
-        same(
-            &rt,
-            &(of(&gate.bounds), of(&gate.boards)),
-            &(bounds, boards),
-        );
-        for budget in 0..boards {
-            let gate = Told::new();
-            let found = found_by(&rt, bundle, &[3, 2, 1, 0], budget, &gate);
-            same(&rt, &found.err(), &Some(MakeFault::K1));
-            same(&rt, &of(&gate.boards), &budget);
-        }
-        same(&rt, &of(&gate.passed), &0);
-    }
-}
-
-#[test]
-fn a_gate_is_told_now_and_then_of_a_long_search(rt: HostRuntime) {
-    let files = made(&rt, 3, &[1 << 4]);
-    let bundle = bundle_of_made(&rt, &files, b"set 0\n");
-    let gate = Told::new();
-    let found = found_by(&rt, &bundle, &[8, 7, 6, 0, 4, 1, 2, 5, 3], 50_000, &gate);
-    same(&rt, &found.err(), &Some(MakeFault::K1));
-    same(&rt, &of(&gate.boards), &50_000);
-    assert!(rt; of(&gate.calls) >= 4);
 }

@@ -84,15 +84,15 @@ fn expect_told<H: Threads + Wait + Sync + Abort>(
 
 #[test]
 fn a_gate_is_told_of_what_makers_do(rt: HostRuntime) -> Result<(), Fail> {
-    // The last search comes to K1, and so does the proved one behind it, from the least threshold on.
+    // Thresholds are searched from the least on.
     let cases = [
         ("make-table 3 14 o", [0, 744, 2016]),
-        ("solve six sets o f12", [57, 0, 0]),
+        ("solve six sets o f12", [1357, 0, 0]),
         (
             "solve six sets o f12 --budget 8 --workers 2",
-            [57_1357, 0, 0],
+            [1357, 0, 0],
         ),
-        ("solve six sets o f12 --budget 1", [5135, 0, 0]),
+        ("solve six sets o f12 --budget 1", [135, 0, 0]),
     ];
     for (words, want) in cases {
         expect_told(&rt, rt.alloc(), words, want)?;
