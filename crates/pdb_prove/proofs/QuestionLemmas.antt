@@ -1,5 +1,6 @@
 -- What is found for a question is found for the claim that asks it.
-use Rattle.std.proofs.Common.{◌≡◌, ℕ, List, subst}
+use Rattle.std.proofs.Common.{◌≡◌, ℕ, List, Some, ap, subst}
+use Rattle.move_strings.specs.BoundParts.{ShownPart}
 use Rattle.puz_board.specs.MovesTexts.{Solves}
 use Rattle.puz_search.specs.Guides.{ShownGuide}
 use Rattle.puz_search.specs.declared.refuting.PartBound.{PartBound}
@@ -16,7 +17,7 @@ module _ (guide : ShownGuide) (budget : ℕ) (b : List ℕ) (found : Finding) wh
   shortest_for claims.shortest is found_for = found_for
   shortest_for (claims.moves text) is found_for = let clash : Shortest ≡ Moves is.0 = is.2 in cc
   shortest_for (claims.bound r) is found_for = let clash : Shortest ≡ Bound r = is in cc
-  shortest_for (claims.part r p) is found_for = let clash : Shortest ≡ Part (record { bound = r; part = p }) = is in cc
+  shortest_for (claims.part r p) is found_for = let clash : Shortest ≡ Part (record { bound = r; part = Some p }) = is in cc
 
   -- moves are said to be a shortest solution
   pub moves_for : (asks : ShownAsks) (n : ℕ) → IsQuestionOf b asks (Moves n) → ((text : List ℕ) → Solves b text n → IsOptimumFor guide budget b text found)
@@ -28,7 +29,7 @@ module _ (guide : ShownGuide) (budget : ℕ) (b : List ℕ) (found : Finding) wh
       moves_same : (m k : ℕ) → Moves m ≡ Moves k → m ≡ k
       moves_same m k e = cc
   moves_for (claims.bound r) n is found_for = let clash : Moves n ≡ Bound r = is in cc
-  moves_for (claims.part r p) n is found_for = let clash : Moves n ≡ Part (record { bound = r; part = p }) = is in cc
+  moves_for (claims.part r p) n is found_for = let clash : Moves n ≡ Part (record { bound = r; part = Some p }) = is in cc
 
   -- a bound is said
   pub bound_for : (asks : ShownAsks) (r : ℕ) → IsQuestionOf b asks (Bound r) → IsBoundFor guide budget b r found → IsFoundOf guide budget b asks found
@@ -38,15 +39,18 @@ module _ (guide : ShownGuide) (budget : ℕ) (b : List ℕ) (found : Finding) wh
     where
       bound_same : (m k : ℕ) → Bound m ≡ Bound k → m ≡ k
       bound_same m k e = cc
-  bound_for (claims.part s p) r is found_for = let clash : Bound r ≡ Part (record { bound = s; part = p }) = is in cc
+  bound_for (claims.part s p) r is found_for = let clash : Bound r ≡ Part (record { bound = s; part = Some p }) = is in cc
 
   -- a part of a bound is said
-  pub part_for : (asks : ShownAsks) (x : PartBound) → IsQuestionOf b asks (Part x) → IsPartFor guide budget b x.bound x.part found
+  pub part_for : (asks : ShownAsks) (x : PartBound) → IsQuestionOf b asks (Part x)
+      → ((p : ShownPart) → x.part ≡ Some p → IsPartFor guide budget b x.bound p found)
       → IsFoundOf guide budget b asks found
   part_for claims.shortest x is found_for = let clash : Part x ≡ Shortest = is in cc
   part_for (claims.moves text) x is found_for = let clash : Part x ≡ Moves is.0 = is.2 in cc
   part_for (claims.bound s) x is found_for = let clash : Part x ≡ Bound s = is in cc
-  part_for (claims.part s q) x is found_for = subst (λ y. IsPartFor guide budget b y.bound y.part found) (same x (record { bound = s; part = q }) is) found_for
+  part_for (claims.part s q) x is found_for =
+      let e : x ≡ record { bound = s; part = Some q } = same x (record { bound = s; part = Some q }) is in
+      subst (λ n. IsPartFor guide budget b n q found) (ap (λ y. y.bound) e) (found_for q (ap (λ y. y.part) e))
     where
       same : (y z : PartBound) → Part y ≡ Part z → y ≡ z
       same y z e = cc

@@ -64,7 +64,7 @@ abbrev pub IsQuestionOf : List ℕ → ShownAsks → Question → Type 0
 IsQuestionOf b claims.shortest question = question ≡ Shortest
 IsQuestionOf b (claims.moves text) question = (n : ℕ) × Solves b text n × (question ≡ Moves n)
 IsQuestionOf b (claims.bound r) question = question ≡ Bound r
-IsQuestionOf b (claims.part r p) question = question ≡ Part (record { bound = r; part = p })
+IsQuestionOf b (claims.part r p) question = question ≡ Part (record { bound = r; part = Some p })
 
 abbrev pub IsAskedOf : ShownClaim → Question → Type 0
 IsAskedOf claim question = IsQuestionOf claim.board claim.asks question

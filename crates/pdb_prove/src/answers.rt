@@ -4,7 +4,6 @@ ghost use Rattle.std.specs.Prelude.{◌≡◌, ℕ, IfErr, IfOk, IfSome, List, m
 ghost use Rattle.puz_board.specs.MovesTexts.{Solves};
 ghost use Rattle.claim_text.specs.Shown.{claim_shown};
 ghost use Rattle.move_strings.specs.BoundParts.{ShownPart};
-ghost use Rattle.puz_walk.specs.Starts.{IsStart};
 ghost use Rattle.puz_search.specs.Answers.{IsAnswer, IsAnswerOfPart, IsDeepened};
 ghost use Rattle.puz_search.specs.Guides.{ShownGuide};
 ghost use Rattle.pdb_prove.specs.Answers.{IsBoundFor, IsFoundBy, IsOptimumFor, IsPartFor, IsShortestFor, is_found_yes};
@@ -17,10 +16,9 @@ use pdb_verdict::Fault;
 use puz_board::{Board, replay};
 use puz_make::is_solvable;
 use puz_search::{
-    Deepened, Guide, Letters, PartBound, SearchAnswer, refute, refute_by, refute_part,
-    refute_part_by, shortest, shortest_by,
+    Deepened, Guide, Letters, PartBound, SearchAnswer, refute, refute_alone, shortest,
+    shortest_alone,
 };
-use puz_walk::Start;
 use std::thread::Threads;
 use work_run::{Gate, Workers};
 
@@ -83,13 +81,17 @@ fn answer_alone(guide: &Guide<'_>, posed: Posed<'_>, budget: u64) -> Finding
     let start = posed.start;
     match asked_of(posed.claim) {
         Ok(Question::Shortest) => {
-            found_shortest(&posed.claim.board, shortest(guide, start, budget))
+            found_shortest(&posed.claim.board, shortest_alone(guide, start, budget))
         }
         Ok(Question::Moves(count)) => {
-            found_moves(count, refute(guide, start, bound_of(count), budget))
+            let bound = PartBound::whole(bound_of(count));
+            found_moves(count, refute_alone(guide, start, &bound, budget))
         }
-        Ok(Question::Bound(bound)) => found_bound(refute(guide, start, bound, budget)),
-        Ok(Question::Part(part)) => found_part(refute_part(guide, start, &part, budget)),
+        Ok(Question::Bound(bound)) => {
+            let bound = PartBound::whole(bound);
+            found_bound(refute_alone(guide, start, &bound, budget))
+        }
+        Ok(Question::Part(part)) => found_part(refute_alone(guide, start, &part, budget)),
         Err(refused) => Finding::Refused(refused),
     }
 }
@@ -107,19 +109,17 @@ pub(crate) fn answer_by<R: Threads + Sync, G: Gate + Sync>(
     let start = posed.start;
     match asked_of(posed.claim) {
         Ok(Question::Shortest) => {
-            let deepened = shortest_together(guide, start, budget, workers);
-            found_shortest(&posed.claim.board, deepened)
+            found_shortest(&posed.claim.board, shortest(guide, start, budget, workers))
         }
         Ok(Question::Moves(count)) => {
-            let bound = bound_of(count);
-            found_moves(count, refute_together(guide, start, bound, budget, workers))
+            let bound = PartBound::whole(bound_of(count));
+            found_moves(count, refute(guide, start, &bound, budget, workers))
         }
         Ok(Question::Bound(bound)) => {
-            found_bound(refute_together(guide, start, bound, budget, workers))
+            let bound = PartBound::whole(bound);
+            found_bound(refute(guide, start, &bound, budget, workers))
         }
-        Ok(Question::Part(part)) => {
-            found_part(refute_part_together(guide, start, &part, budget, workers))
-        }
+        Ok(Question::Part(part)) => found_part(refute(guide, start, &part, budget, workers)),
         Err(refused) => Finding::Refused(refused),
     }
 }
@@ -215,55 +215,5 @@ fn found_part(answer: SearchAnswer) -> Finding
         SearchAnswer::Refuted(_) => Finding::Part,
         SearchAnswer::Solved(letters) => Finding::Shorter(letters),
         SearchAnswer::Spent => Finding::Refused(Fault::K1),
-    }
-}
-
-/// As `refute_part_by`, or where workers can't be started as `refute_part`.
-fn refute_part_together<R: Threads + Sync, G: Gate + Sync>(
-    guide: &Guide<'_>,
-    start: &Start,
-    part: &PartBound,
-    budget: u64,
-    workers: &Workers<'_, R, G>,
-) -> SearchAnswer
-    requires { IsStart guide.now.bundle start.now }
-    ensures { IsAnswerOfPart guide.now part.now.part start.now.board part.now.bound budget result }
-{
-    match refute_part_by(guide, start, part, budget, workers) {
-        Ok(answer) => answer,
-        Err(_) => refute_part(guide, start, part, budget),
-    }
-}
-
-/// As `refute_by`, or where workers can't be started as `refute`.
-fn refute_together<R: Threads + Sync, G: Gate + Sync>(
-    guide: &Guide<'_>,
-    start: &Start,
-    bound: u8,
-    budget: u64,
-    workers: &Workers<'_, R, G>,
-) -> SearchAnswer
-    requires { IsStart guide.now.bundle start.now }
-    ensures { IsAnswer guide.now start.now.board bound budget result }
-{
-    match refute_by(guide, start, bound, budget, workers) {
-        Ok(answer) => answer,
-        Err(_) => refute(guide, start, bound, budget),
-    }
-}
-
-/// As `shortest_by`, or where workers can't be started as `shortest`.
-fn shortest_together<R: Threads + Sync, G: Gate + Sync>(
-    guide: &Guide<'_>,
-    start: &Start,
-    budget: u64,
-    workers: &Workers<'_, R, G>,
-) -> Deepened
-    requires { IsStart guide.now.bundle start.now }
-    ensures { IsDeepened guide.now start.now.board budget result }
-{
-    match shortest_by(guide, start, budget, workers) {
-        Ok(deepened) => deepened,
-        Err(_) => shortest(guide, start, budget),
     }
 }

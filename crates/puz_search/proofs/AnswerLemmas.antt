@@ -1,14 +1,13 @@
 -- What the answers of parts say of the whole search.
-use Rattle.std.proofs.Common.{◌≡◌, ℕ, ◌<◌, ◌≤◌, ◌↔◌, List, Result, Ok, Err, IfOk, refl, sym, ap, subst, arith}
-use Rattle.std.specs.declared.alloc.AllocError.{AllocError}
+use Rattle.std.proofs.Common.{◌≡◌, ℕ, ◌<◌, ◌≤◌, ◌↔◌, List, Option, None, Some, refl, sym, ap, subst, arith}
 use Rattle.puz_board.specs.Boards.{IsBoard, IsBoardOf}
 use Rattle.puz_board.proofs.BoardLemmas.{side_of-board}
 use Rattle.puz_walk.specs.Walks.{IsClosed}
-use Rattle.puz_search.specs.Answers.{IsAnswer, IsAnswerOfPart}
+use Rattle.puz_search.specs.Answers.{IsAnswer, IsAnswerOfPart, IsAnswerTo, SearchFails}
 use Rattle.puz_search.specs.Guides.{IsGuide}
 use Rattle.puz_search.specs.Nodes.{IsFirst, IsLed, IsPartAnswer, node_counts, search_counts, solves_below, solves_first}
 use Rattle.move_strings.specs.BoundParts.{ShownPart, letters_of}
-use Rattle.puz_search.specs.Prefixes.{Count, IsRead, at_least, counted, in_all, only_part, part_of, prefix_counts}
+use Rattle.puz_search.specs.Prefixes.{Count, IsPrefixOf, IsRead, at_least, counted, in_all, only_part, part_of, prefix_counts}
 use Rattle.puz_search.specs.Searches.{Fails, SearchOfPartFails}
 use Rattle.puz_search.specs.declared.answers.SearchAnswer.{SearchAnswer}
 use Rattle.puz_search.specs.declared.answers.SearchAnswer.TheVariants.{Refuted, Solved, Spent}
@@ -63,7 +62,7 @@ module _ (s : Search) (is : IsGuide s.guide.now) (read : IsRead s.prefix) (budge
   all_same count n = part_here s.guide.now (part_of s.prefix) s.start.now.board 0 count s.prefix.ahead s.prefix.rank s.bound read.0 (λ e. read.1) n
 
   -- says what it is to say
-  pub all_answer : (answer : SearchAnswer) → IsWhole s budget answer → IsAnswer s.guide.now s.start.now.board s.bound budget answer
+  all_answer : (answer : SearchAnswer) → IsWhole s budget answer → IsAnswer s.guide.now s.start.now.board s.bound budget answer
   all_answer (Refuted boards) part =
       let fails = (all_same in_all boards).0 (part.0 in_all) in
       (fails_bounds s.guide.now is s.bound s.start.now.board boards s.one_side fails, fails, part.1)
@@ -71,7 +70,7 @@ module _ (s : Search) (is : IsGuide s.guide.now) (read : IsRead s.prefix) (budge
   all_answer Spent part = (part.0, (all_same at_least part.0).0 part.1, part.2)
 
   -- where the search of all moves fails within the budget, the whole search is refuted with its count of boards
-  pub all_within : (boards : ℕ) → Fails s.guide.now s.bound s.start.now.board 0 boards → boards ≤ budget → (answer : SearchAnswer) → IsWhole s budget answer
+  all_within : (boards : ℕ) → Fails s.guide.now s.bound s.start.now.board 0 boards → boards ≤ budget → (answer : SearchAnswer) → IsWhole s budget answer
       → answer ≡ Refuted boards
   all_within boards fails low answer part = whole_within s budget boards ((all_same in_all boards).1 fails) low answer part
 
@@ -90,7 +89,7 @@ module _ (s : Search) (is : IsGuide s.guide.now) (p : ShownPart) (of_part : part
   )
 
   -- the answer of a whole search among a part's moves is one of the part
-  pub part_answer : (answer : SearchAnswer) → IsWhole s budget answer → IsAnswerOfPart s.guide.now p s.start.now.board s.bound budget answer
+  part_answer : (answer : SearchAnswer) → IsWhole s budget answer → IsAnswerOfPart s.guide.now p s.start.now.board s.bound budget answer
   part_answer (Refuted boards) part =
       let fails = (part_same in_all boards).0 (part.0 in_all) in
       (part_bounds s.guide.now is p s.bound s.start.now.board boards s.one_side fails, fails, part.1)
@@ -98,11 +97,22 @@ module _ (s : Search) (is : IsGuide s.guide.now) (p : ShownPart) (of_part : part
   part_answer Spent part = (part.0, (part_same at_least part.0).0 part.1, part.2)
 
   -- where the search of the part fails within the budget, the whole search is refuted with its count of boards
-  pub part_within : (boards : ℕ) → SearchOfPartFails s.guide.now p s.bound s.start.now.board boards → boards ≤ budget → (answer : SearchAnswer)
+  part_within : (boards : ℕ) → SearchOfPartFails s.guide.now p s.bound s.start.now.board boards → boards ≤ budget → (answer : SearchAnswer)
       → IsWhole s budget answer → answer ≡ Refuted boards
   part_within boards fails low answer part = whole_within s budget boards ((part_same in_all boards).1 fails) low answer part
 
--- what holds of each answer holds of an `Ok`
-pub if_ok : (P Q : SearchAnswer → Type 0) → ((answer : SearchAnswer) → P answer → Q answer) → (r : Result SearchAnswer AllocError) → IfOk r P → IfOk r Q
-if_ok P Q then (Ok answer) is = then answer is
-if_ok P Q then (Err fault) is = tt
+-- ---- of either
+
+module _ (s : Search) (is : IsGuide s.guide.now) (budget : ℕ) where
+  -- the answer of a whole search is one to its claim
+  pub claim_answer : (part : Option ShownPart) → IsPrefixOf s.prefix part → (answer : SearchAnswer) → IsWhole s budget answer
+      → IsAnswerTo s.guide.now part s.start.now.board s.bound budget answer
+  claim_answer None of answer whole = all_answer s is of budget answer whole
+  claim_answer (Some p) of answer whole = part_answer s is p of.0 of.1 of.2 budget answer whole
+
+  -- where the search of the claim fails within the budget, the whole search is refuted with its count of boards
+  pub claim_within : (part : Option ShownPart) → IsPrefixOf s.prefix part → (boards : ℕ) → SearchFails s.guide.now part s.bound s.start.now.board boards
+      → boards ≤ budget → (answer : SearchAnswer) → IsWhole s budget answer
+      → answer ≡ Refuted boards
+  claim_within None of boards fails low answer whole = all_within s is of budget boards fails low answer whole
+  claim_within (Some p) of boards fails low answer whole = part_within s is p of.0 of.1 of.2 budget boards fails low answer whole

@@ -1,5 +1,5 @@
 -- What searches answer.
-use Rattle.std.specs.Prelude.{◌≡◌, ℕ, ◌+◌, ◌*◌, ◌<◌, ◌≤◌, List}
+use Rattle.std.specs.Prelude.{◌≡◌, ℕ, ◌+◌, ◌*◌, ◌<◌, ◌≤◌, List, Option, None, Some}
 use Rattle.puz_board.specs.MovesTexts.{Solves}
 use Rattle.puz_board.specs.Parity.{blank_parity}
 use Rattle.move_strings.specs.BoundParts.{IsPartBounded, ShownPart}
@@ -30,6 +30,16 @@ abbrev pub IsAnswerOfPart : ShownGuide → ShownPart → List ℕ → ℕ → �
 IsAnswerOfPart g p b r budget (answer.Refuted boards) = IsPartBounded p r b × SearchOfPartFails g p r b boards × (boards ≤ budget)
 IsAnswerOfPart g p b r budget (answer.Solved letters) = IsShorter b r letters.items
 IsAnswerOfPart g p b r budget answer.Spent = (boards : ℕ) × SearchOfPartHas g p r b boards × (budget < boards)
+
+-- of a whole bound, or of a part where one is said
+abbrev pub IsAnswerTo : ShownGuide → Option ShownPart → List ℕ → ℕ → ℕ → SearchAnswer → Type 0
+IsAnswerTo g None b r budget answer = IsAnswer g b r budget answer
+IsAnswerTo g (Some p) b r budget answer = IsAnswerOfPart g p b r budget answer
+
+-- the search of it fails, and expands so many boards
+abbrev pub SearchFails : ShownGuide → Option ShownPart → ℕ → List ℕ → ℕ → Type 0
+SearchFails g None r b boards = Fails g r b 0 boards
+SearchFails g (Some p) r b boards = SearchOfPartFails g p r b boards
 
 -- ---- threshold by threshold
 

@@ -1,7 +1,7 @@
 -- How far the letters that tell a part have been read, and the counts of boards behind them.
-use Rattle.std.specs.Prelude.{◌≡◌, ◌≢◌, ℕ, zero, suc, ◌+◌, ◌*◌, ◌%◌, List}
+use Rattle.std.specs.Prelude.{◌≡◌, ◌≢◌, ℕ, zero, suc, ◌+◌, ◌*◌, ◌%◌, List, Option, None, Some}
 use Rattle.puz_board.specs.declared.moves.Move.{Move}
-use Rattle.move_strings.specs.BoundParts.{ShownPart}
+use Rattle.move_strings.specs.BoundParts.{ShownPart, letters_of}
 use Rattle.move_strings.specs.Strings.{rank_of}
 use Rattle.puz_search.specs.Guides.{ShownGuide}
 use Rattle.puz_search.specs.Searches.{InTurn, PartFails, PartHas}
@@ -38,6 +38,11 @@ part_of x = record { index = x.index; count = x.count }
 -- no letter is to come, and they are of the part
 abbrev pub IsRead : Prefix → Type 0
 IsRead x = (x.ahead ≡ 0) × (x.rank % x.count ≡ x.index)
+
+-- none of the letters that tell the part has been read; or the moves are all
+abbrev pub IsPrefixOf : Prefix → Option ShownPart → Type 0
+IsPrefixOf x None = IsRead x
+IsPrefixOf x (Some p) = (part_of x ≡ p) × (x.ahead ≡ letters_of p) × (x.rank ≡ 0)
 
 -- ---- counts of boards
 

@@ -1,15 +1,12 @@
 //! Shortest solutions by iterative deepening (Korf 1985).
 
-ghost use Rattle.std.specs.Prelude.{◌≡◌, IfOk};
 ghost use Rattle.puz_walk.specs.Starts.{IsStart};
 ghost use Rattle.puz_search.specs.Answers.{IsDeepened};
 
 use crate::answers::{Letters, SearchAnswer};
 use crate::guides::Guide;
-use crate::refuting::refute;
-use crate::sharing::refute_by;
+use crate::refuting::{PartBound, refute, refute_alone};
 use puz_walk::Start;
-use std::alloc::AllocError;
 use std::thread::Threads;
 use work_run::{Gate, Workers};
 
@@ -32,14 +29,23 @@ pub enum Deepened {
 ///
 /// The first threshold is one more than the parity that all solutions of the board have, and each next one two more: below a
 /// threshold `refute` searches.
-pub fn shortest(guide: &Guide<'_>, start: &Start, budget: u64) -> Deepened
+pub fn shortest<R: Threads + Sync, G: Gate + Sync>(
+    guide: &Guide<'_>,
+    start: &Start,
+    budget: u64,
+    workers: &Workers<'_, R, G>,
+) -> Deepened
     requires { IsStart guide.now.bundle start.now }
     ensures { IsDeepened guide.now start.now.board budget result }
 {
     let mut bound = start.board.blank_parity();
     let mut left = budget;
     while bound < LARGEST_BOUND {
-        match refute(guide, start, bound + 1, left) {
+        let threshold = PartBound {
+            bound: bound + 1,
+            part: None,
+        };
+        match refute(guide, start, &threshold, left, workers) {
             SearchAnswer::Refuted(boards) => {
                 left -= boards;
                 bound += 2;
@@ -51,28 +57,26 @@ pub fn shortest(guide: &Guide<'_>, start: &Start, budget: u64) -> Deepened
     Deepened::Beyond
 }
 
-/// Searches as `shortest` does, by these workers at once: below a threshold `refute_by` searches.
-pub fn shortest_by<R: Threads + Sync, G: Gate + Sync>(
-    guide: &Guide<'_>,
-    start: &Start,
-    budget: u64,
-    workers: &Workers<'_, R, G>,
-) -> Result<Deepened, AllocError>
+/// Searches as `shortest` does, by the caller's thread alone: below a threshold `refute_alone` searches.
+pub fn shortest_alone(guide: &Guide<'_>, start: &Start, budget: u64) -> Deepened
     requires { IsStart guide.now.bundle start.now }
-    ensures { IfOk result (IsDeepened guide.now start.now.board budget) }
+    ensures { IsDeepened guide.now start.now.board budget result }
 {
     let mut bound = start.board.blank_parity();
     let mut left = budget;
     while bound < LARGEST_BOUND {
-        let answer = refute_by(guide, start, bound + 1, left, workers)?;
-        match answer {
+        let threshold = PartBound {
+            bound: bound + 1,
+            part: None,
+        };
+        match refute_alone(guide, start, &threshold, left) {
             SearchAnswer::Refuted(boards) => {
                 left -= boards;
                 bound += 2;
             }
-            SearchAnswer::Solved(letters) => return Ok(Deepened::Shortest(letters)),
-            SearchAnswer::Spent => return Ok(Deepened::Spent(bound)),
+            SearchAnswer::Solved(letters) => return Deepened::Shortest(letters),
+            SearchAnswer::Spent => return Deepened::Spent(bound),
         }
     }
-    Ok(Deepened::Beyond)
+    Deepened::Beyond
 }

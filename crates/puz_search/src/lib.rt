@@ -13,12 +13,12 @@ mod outcomes;
 mod part_walks;
 mod prefixes;
 mod refuting;
+mod refuting_alone;
 mod searches;
 mod sharing;
 mod walks;
 
 pub use answers::{Letters, SearchAnswer};
-pub use deepening::{Deepened, shortest, shortest_by};
+pub use deepening::{Deepened, shortest, shortest_alone};
 pub use guides::{Guide, Sets};
-pub use refuting::{PartBound, refute, refute_part};
-pub use sharing::{refute_by, refute_part_by};
+pub use refuting::{PartBound, refute, refute_alone};

@@ -8,7 +8,7 @@ ghost use Rattle.puz_search.specs.Frontiers.{AreOutcomesOf, IsOutcome, all_count
 use crate::answers::SearchAnswer;
 use crate::efforts::Effort;
 use crate::nodes::Node;
-use crate::refuting::refute_node;
+use crate::refuting_alone::refute_node;
 use crate::searches::Search;
 use std::sync::atomic::{AtomicU64, AtomicUsize, Ordering};
 use work_run::Gate;

@@ -11,8 +11,8 @@ use edge_words::Words;
 use move_strings::BoundPart;
 use puz_board::{Board, replay};
 use puz_search::{
-    Deepened, Guide, Letters, PartBound, SearchAnswer, refute, refute_by, refute_part,
-    refute_part_by, shortest, shortest_by,
+    Deepened, Guide, Letters, PartBound, SearchAnswer, refute, refute_alone, shortest,
+    shortest_alone,
 };
 use puz_walk::{Outline, Start, WordBundle};
 use set_sum::{Bundle, Part};
@@ -78,61 +78,44 @@ fn tell<R: Abort>(rt: &R, board: &Board, answer: SearchAnswer) -> Told {
     }
 }
 
-/// Asserts that no solution is shorter, and how many boards are expanded for that.
+/// Asserts that a bound, or a part of it, is refuted, and how many boards are expanded for that.
 fn expect_refuted<R: Threads + Sync + AllocGlobal + Abort>(
     rt: &R,
     guide: &Guide<'_>,
     start: &Start,
+    claim: &PartBound,
     boards: u64,
-) -> Result<(), AllocError>
+)
     requires { IsStart guide.now.bundle start.now }
 {
     let wanted = Told::Refuted(boards);
-    let alone = refute(guide, start, MOVES, boards);
+    let alone = refute_alone(guide, start, claim, boards);
     same(rt, &tell(rt, &start.board, alone), &wanted);
     let workers = Workers::new(rt, rt.alloc(), 3, &OpenGate);
-    let shared = refute_by(guide, start, MOVES, boards, &workers)?;
+    let shared = refute(guide, start, claim, boards, &workers);
     same(rt, &tell(rt, &start.board, shared), &wanted);
-    Ok(())
 }
 
-/// Asserts how many boards the search of the second third of the bound expands.
-fn expect_part<R: Threads + Sync + AllocGlobal + Abort>(
-    rt: &R,
-    guide: &Guide<'_>,
-    start: &Start,
-) -> Result<(), AllocError>
-    requires { IsStart guide.now.bundle start.now }
-{
-    let wanted = Told::Refuted(COUNT_OF_PART);
-    let claim = PartBound::new(MOVES, BoundPart::new(1, 3).expect(rt, "a part"));
-    let alone = refute_part(guide, start, &claim, COUNT_OF_PART);
-    same(rt, &tell(rt, &start.board, alone), &wanted);
-    let workers = Workers::new(rt, rt.alloc(), 2, &OpenGate);
-    let shared = refute_part_by(guide, start, &claim, COUNT_OF_PART, &workers)?;
-    same(rt, &tell(rt, &start.board, shared), &wanted);
-    Ok(())
-}
-
-/// Asserts all of these over the sums of a bundle.
+/// Asserts what searches over the sums of a bundle expand: one for a shorter solution, and that of the second third of the bound.
 fn expect_over_sums<R: Threads + Sync + AllocGlobal + Abort>(
     rt: &R,
     bundle: &Bundle<'_>,
     boards: u64,
-) -> Result<(), AllocError> {
+) {
     let automaton = reversals(rt, bundle.side());
     let guide = Guide::new(bundle, &automaton);
     let start = start_of(rt, bundle, &board_of(rt, &BOARD));
-    expect_refuted(rt, &guide, &start, boards)?;
-    expect_part(rt, &guide, &start)
+    expect_refuted(rt, &guide, &start, &PartBound::whole(MOVES), boards);
+    let part = BoundPart::new(1, 3).expect(rt, "a part");
+    let second = PartBound::new(MOVES, part);
+    expect_refuted(rt, &guide, &start, &second, COUNT_OF_PART);
 }
 
 #[test]
-fn searches_over_sums_expand_as_many_boards_as_were_counted(rt: HostRuntime) -> Result<(), Fail> {
+fn searches_over_sums_expand_as_many_boards_as_were_counted(rt: HostRuntime) {
     let files = made(&rt, 4, &MASKS);
     let (text, boards) = COUNTS[0];
-    expect_over_sums(&rt, &bundle_of_made(&rt, &files, text), boards)?;
-    Ok(())
+    expect_over_sums(&rt, &bundle_of_made(&rt, &files, text), boards);
 }
 
 /// The words of the tables of a bundle.
@@ -161,7 +144,8 @@ fn expect_over_words<R: Threads + Sync + AllocGlobal + Abort>(
     let automaton = reversals(rt, bundle.side());
     let guide = Guide::over_words(&worded, &automaton);
     let start = start_of(rt, bundle, &board_of(rt, &BOARD));
-    expect_refuted(rt, &guide, &start, boards)
+    expect_refuted(rt, &guide, &start, &PartBound::whole(MOVES), boards);
+    Ok(())
 }
 
 // One set, two and more have walks of their own.
@@ -188,23 +172,19 @@ fn expect_moves<R: Abort>(rt: &R, board: &Board, found: Deepened, wanted: u16) {
 }
 
 /// Asserts that a shortest solution of the farthest board is found, threshold by threshold.
-fn expect_shortest<R: Threads + Sync + AllocGlobal + Abort>(
-    rt: &R,
-    bundle: &Bundle<'_>,
-) -> Result<(), AllocError> {
+fn expect_shortest<R: Threads + Sync + AllocGlobal + Abort>(rt: &R, bundle: &Bundle<'_>) {
     let automaton = reversals(rt, bundle.side());
     let guide = Guide::new(bundle, &automaton);
     let start = start_of(rt, bundle, &board_of(rt, &FARTHEST));
-    expect_moves(rt, &start.board, shortest(&guide, &start, PLENTY), 31);
+    let alone = shortest_alone(&guide, &start, PLENTY);
+    expect_moves(rt, &start.board, alone, 31);
     let workers = Workers::new(rt, rt.alloc(), 3, &OpenGate);
-    let shared = shortest_by(&guide, &start, PLENTY, &workers)?;
+    let shared = shortest(&guide, &start, PLENTY, &workers);
     expect_moves(rt, &start.board, shared, 31);
-    Ok(())
 }
 
 #[test]
-fn a_shortest_solution_of_a_farthest_board_is_found(rt: HostRuntime) -> Result<(), Fail> {
+fn a_shortest_solution_of_a_farthest_board_is_found(rt: HostRuntime) {
     let files = made(&rt, 3, &[30, 480]);
-    expect_shortest(&rt, &bundle_of_made(&rt, &files, b"set 0 1\nset 0t 1t\n"))?;
-    Ok(())
+    expect_shortest(&rt, &bundle_of_made(&rt, &files, b"set 0 1\nset 0t 1t\n"));
 }

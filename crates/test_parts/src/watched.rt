@@ -7,7 +7,7 @@ use crate::same::same;
 use crate::starts::{reversals, start_of};
 use move_strings::Automaton;
 use puz_board::Board;
-use puz_search::{Deepened, Guide, SearchAnswer, refute_by, shortest_by};
+use puz_search::{Deepened, Guide, PartBound, SearchAnswer, refute, shortest};
 use set_sum::Bundle;
 use std::process::Abort;
 use std::sync::atomic::{AtomicU64, Ordering};
@@ -62,12 +62,13 @@ fn watch<R: Threads + Sync + AllocGlobal + Abort>(
     let guide = Guide::new(bundle, automaton);
     let counts = Counts::new();
     let workers = Workers::new(rt, rt.alloc(), 2, &counts);
-    let Ok(SearchAnswer::Refuted(boards)) = refute_by(&guide, &start, 6, 100, &workers) else {
+    let bound = PartBound::whole(6);
+    let SearchAnswer::Refuted(boards) = refute(&guide, &start, &bound, 100, &workers) else {
         panic!(rt; "refuted");
     };
     same(rt, &counts.searches.load(Ordering::SeqCst), &1);
     same(rt, &counts.boards.load(Ordering::SeqCst), &boards);
-    let Ok(Deepened::Shortest(_)) = shortest_by(&guide, &start, 100, &workers) else {
+    let Deepened::Shortest(_) = shortest(&guide, &start, 100, &workers) else {
         panic!(rt; "a solution");
     };
     // Thresholds 1, 3, 5 and 7.
@@ -95,8 +96,9 @@ fn jobs_of<R: Threads + Sync + AllocGlobal + Abort>(
         1..=64 => Workers::new(rt, rt.alloc(), workers, &counts),
         _ => panic!(rt; "1 to 64 workers"),
     };
-    let answer = refute_by(&guide, &start, korf_board::MOVES, u64::MAX, &workers);
-    let Ok(SearchAnswer::Refuted(boards)) = answer else {
+    let bound = PartBound::whole(korf_board::MOVES);
+    let answer = refute(&guide, &start, &bound, u64::MAX, &workers);
+    let SearchAnswer::Refuted(boards) = answer else {
         panic!(rt; "refuted");
     };
     assert!(rt; boards > 1 << 16, "{boards}");

@@ -3,16 +3,16 @@ use Rattle.puz_board.specs.Parity.{blank_parity}
 use Rattle.puz_search.proofs.DeepLemmas.{deep_first, deep_next, deep_spent}
 use Rattle.puz_search.proofs.deepening.shortest.Goals as goal
 
--- one thread begins to deepen with the blank's parity as bound and the whole budget
+-- deepening begins with the blank's parity as bound and the whole budget
 pub loop-bound-init : goal.loop-bound-init
-loop-bound-init c =
+loop-bound-init g c =
     let b = c.args.start.now.board in
     deep_first c.args.guide.now b c.requires.board c.args.budget c.blank_parity-bound.result
     c.blank_parity-bound.ensures.parity c.blank_parity-bound.ensures.bit
 
--- where one thread refutes the search below a threshold, no solution has fewer moves than two above the bound
+-- where the search below a threshold is refuted, no solution has fewer moves than two above the bound
 pub loop-bound-preserved : goal.loop-bound-preserved
-loop-bound-preserved c =
+loop-bound-preserved g c =
     let b = c.args.start.now.board in
     let is = c.in-Refuted.ensures.answer in
     let low : c.loop-bound.bound < 254 = c.loop-bound-test.true in
@@ -20,9 +20,9 @@ loop-bound-preserved c =
     deep_next c.args.guide.now b c.requires.board c.args.budget c.loop-bound.left c.loop-bound.bound
     c.in-Refuted.boards low bit c.loop-bound.invariant is.0 is.1 is.2
 
--- where one thread's budget ends below a threshold, the bound that was reached is the answer
+-- where the budget ends below a threshold, the bound that was reached is the answer
 pub returns-in-Spent : goal.returns-in-Spent
-returns-in-Spent c =
+returns-in-Spent g c =
     let b = c.args.start.now.board in
     deep_spent c.args.guide.now b c.requires.board c.args.budget c.loop-bound.left
     c.loop-bound.bound c.loop-bound.invariant c.in-Spent.ensures.answer

@@ -1,32 +1,32 @@
-use Rattle.std.proofs.Common.{arith}
+use Rattle.std.proofs.Common.{arith, subst, sym}
 use Rattle.puz_search.specs.declared.searches.Search.{Search}
-use Rattle.puz_search.proofs.AnswerLemmas.{all_answer, all_within}
+use Rattle.puz_search.proofs.AnswerLemmas.{claim_answer, claim_within}
 use Rattle.puz_search.proofs.refuting.refute.Goals as goal
 
--- what one thread answers for all moves is right for the board, the bound and the budget
+-- what workers answer is right for the claim, the board and the budget
 pub returns-clause-answer : goal.returns-clause-answer
-returns-clause-answer c =
+returns-clause-answer g c =
     let s : Search = record {
       guide = c.args.guide;
       start = c.args.start;
-      bound = c.args.bound;
+      bound = c.args.claim.now.bound;
       first_state = c.side-side.ensures.guide.automaton.first;
       one_side = c.requires.board;
-      small = omega arith;
-      prefix = c.of_all.result;
+      small = c.bound-bound.ensures.small;
+      prefix = c.prefix.result;
     } in
-    all_answer s c.side-side.ensures.guide c.of_all.ensures c.args.budget c.refute_first.result c.refute_first.ensures
+    claim_answer s c.side-side.ensures.guide c.args.budget c.args.claim.now.part c.prefix.ensures c.search_with.result c.search_with.ensures
 
--- where the search of all moves fails within the budget, one thread answers that it is refuted
+-- where the search of the claim fails within the budget, workers answer that it is refuted
 pub returns-clause-within : goal.returns-clause-within
-returns-clause-within c boards fails few =
+returns-clause-within g c boards fails few =
     let s : Search = record {
       guide = c.args.guide;
       start = c.args.start;
-      bound = c.args.bound;
+      bound = c.args.claim.now.bound;
       first_state = c.side-side.ensures.guide.automaton.first;
       one_side = c.requires.board;
-      small = omega arith;
-      prefix = c.of_all.result;
+      small = c.bound-bound.ensures.small;
+      prefix = c.prefix.result;
     } in
-    all_within s c.side-side.ensures.guide c.of_all.ensures c.args.budget boards fails few c.refute_first.result c.refute_first.ensures
+    claim_within s c.side-side.ensures.guide c.args.budget c.args.claim.now.part c.prefix.ensures boards fails few c.search_with.result c.search_with.ensures

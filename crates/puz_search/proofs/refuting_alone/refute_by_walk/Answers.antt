@@ -6,7 +6,7 @@ use Rattle.puz_search.specs.Outcomes.{IsTrail}
 use Rattle.puz_search.specs.Prefixes.{at_least, in_all}
 use Rattle.puz_search.specs.declared.walks.Reached.{Reached}
 use Rattle.puz_search.proofs.NodeLemmas.{node_closed, reached_by, reached_counts}
-use Rattle.puz_search.proofs.refuting.refute_by_walk.Goals as goal
+use Rattle.puz_search.proofs.refuting_alone.refute_by_walk.Goals as goal
 
 -- a node to whose board there is no walk is refuted with 0 boards
 pub returns-in_default : goal.returns-in_default

@@ -1,5 +1,5 @@
 use Rattle.puz_search.proofs.AnswerLemmas.{whole_closed}
-use Rattle.puz_search.proofs.refuting.refute_first.Goals as goal
+use Rattle.puz_search.proofs.refuting_alone.refute_first.Goals as goal
 
 -- where there is no node of the first board, it is closed
 pub returns-in-None : goal.returns-in-None

@@ -6,7 +6,7 @@ use Rattle.set_sum.specs.Bundles.{ShownBundle}
 use Rattle.puz_search.specs.Nodes.{IsPlaced}
 use Rattle.puz_search.specs.declared.nodes.Node.{Node}
 use Rattle.puz_search.specs.declared.searches.Search.{Search}
-use Rattle.puz_search.proofs.refuting.refute_over_words.Goals as goal
+use Rattle.puz_search.proofs.refuting_alone.refute_over_words.Goals as goal
 
 module _ (s : Search) (node : Node) (v : ShownBundle) (same : v ≡ s.guide.now.bundle) (placed : IsPlaced s node) where
   -- the node's board is of the side of the words

@@ -1,7 +1,7 @@
 use Rattle.std.proofs.Common.{sym, ◌∙◌, ap}
 use Rattle.puz_board.proofs.BoardLemmas.{side_of-board}
 use Rattle.puz_search.specs.StoredGuides.{bundle_of}
-use Rattle.puz_search.proofs.refuting.refute_node.Goals as goal
+use Rattle.puz_search.proofs.refuting_alone.refute_node.Goals as goal
 
 -- the node's board is of the bundle's side, as a walk over sums needs it
 pub new-walk-requires : goal.new-walk-requires
