@@ -11,8 +11,8 @@ use Rattle.set_sum.specs.Bundles.{ShownBundle}
 abbrev pub search_guide : ShownBundle → ShownGuide
 search_guide v = record { bundle = v; steps = reversal_steps }
 
--- The budget of boards is spent: the searches below the first k thresholds fail and expand no more boards, and those below the first
--- k + 1 expand more wherever they fail. Where the last of them finds a solution, this doesn't say how many boards it expands before.
+-- The budget of boards is spent: the searches below the first k thresholds fail within it, and the search below the next threshold
+-- has more boards than what they leave of it.
 abbrev pub IsSpent : ShownBundle → List ℕ → ℕ → Type 0
 IsSpent v b budget = (k : ℕ) × IsSpentAfter (search_guide v) b budget k
 

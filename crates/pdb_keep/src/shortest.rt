@@ -1,10 +1,7 @@
 //! The search for a shortest solution, threshold by threshold (Korf 1985), until one is found or the budget is spent.
 
-ghost use Rattle.std.specs.Prelude.{◌≡◌, ◌≤◌, ◌^◌, ℕ, IfErr, IfOk, IfSome};
+ghost use Rattle.std.specs.Prelude.{◌≡◌, ◌≤◌, ◌^◌, IfErr, IfOk, IfSome};
 ghost use Rattle.puz_board.specs.Boards.{side_of};
-ghost use Rattle.puz_search.specs.Answers.{IsAnswer};
-ghost use Rattle.puz_search.specs.Searches.{Fails};
-ghost use Rattle.puz_search.specs.declared.answers.SearchAnswer.TheVariants.{Refuted};
 ghost use Rattle.puz_walk.specs.Starts.{IsStart};
 ghost use Rattle.pdb_keep.specs.GivenUp.{IsTooLong, search_guide};
 ghost use Rattle.pdb_keep.specs.Steps.{IsGivenUp};
@@ -12,7 +9,7 @@ ghost use Rattle.pdb_keep.specs.Steps.{IsGivenUp};
 use move_strings::Automaton;
 use pdb_verdict::Fault;
 use puz_board::Board;
-use puz_search::{Guide, Letters, SearchAnswer, refute, refute_by};
+use puz_search::{Guide, Letters, PartBound, SearchAnswer, refute};
 use puz_walk::Start;
 use set_sum::Bundle;
 use std::thread::Threads;
@@ -68,7 +65,11 @@ fn deepen<H: Threads + Sync, G: Gate + Sync>(
     let mut left = budget;
     let mut boards = 0;
     while count < LARGEST_BOUND {
-        match refute_together(guide, start, count + 1, left, workers) {
+        let threshold = PartBound {
+            bound: count + 1,
+            part: None,
+        };
+        match refute(guide, start, &threshold, left, workers) {
             SearchAnswer::Refuted(expanded) => {
                 left -= expanded;
                 boards = expanded;
@@ -85,23 +86,4 @@ fn deepen<H: Threads + Sync, G: Gate + Sync>(
         }
     }
     Ok(None)
-}
-
-/// What the search below a bound answers: by all workers, or where they can't be started by one thread.
-fn refute_together<H: Threads + Sync, G: Gate + Sync>(
-    guide: &Guide<'_>,
-    start: &Start,
-    bound: u8,
-    budget: u64,
-    workers: &Workers<'_, H, G>,
-) -> SearchAnswer
-    requires { IsStart guide.now.bundle start.now }
-    ensures answer { IsAnswer guide.now start.now.board bound budget result }
-    ensures within { (boards : ℕ) → Fails guide.now bound start.now.board 0 boards
-        → boards ≤ budget → result ≡ Refuted boards }
-{
-    match refute_by(guide, start, bound, budget, workers) {
-        Ok(answer) => answer,
-        Err(_) => refute(guide, start, bound, budget),
-    }
 }

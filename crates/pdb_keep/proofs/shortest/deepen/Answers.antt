@@ -12,18 +12,19 @@ loop-count-init g c = (
 -- a search that fails adds one threshold
 pub loop-count-preserved : goal.loop-count-preserved
 loop-count-preserved g c =
-    let is = rw c.in-Refuted.is at c.refute_together.ensures.answer in
+    let is = rw c.in-Refuted.is at c.refute.ensures.answer in
     let before = c.loop-count.invariant.0 in (
       within_next c.args.guide.now c.args.start.now.board c.args.budget c.loop-count.left c.loop-count.count before
-          c.in-Refuted.expanded c.refute_together.result c.in-Refuted.is is.1 is.2 c.refute_together.ensures.within,
+          c.in-Refuted.expanded is.1 is.2,
       within_long c.args.guide.now c.args.start.now.board c.args.budget c.loop-count.left c.loop-count.count before
           c.requires.guide c.in-Refuted.expanded is.1,
     )
 
--- where a search spends what is left, the budget is spent
+-- where a search has more boards than what is left, the budget is spent
 pub returns-in-Spent-clause-given_up : goal.returns-in-Spent-clause-given_up
 returns-in-Spent-clause-given_up g c =
     let before = c.loop-count.invariant.0 in
+    let is = rw c.in-Spent.is at c.refute.ensures.answer in
     let spent = within_spent c.args.guide.now c.args.start.now.board c.args.budget c.loop-count.left c.loop-count.count before
-    (rw c.in-Spent.is at c.refute_together.ensures.answer) in
+        is.0 is.1 is.2 in
     (before.thresholds, rw c.requires.guide at spent)
