@@ -171,16 +171,28 @@ fn expect_moves<R: Abort>(rt: &R, board: &Board, found: Deepened, wanted: u16) {
     same(rt, &moves(rt, board, &letters), &wanted);
 }
 
+/// Asserts how many moves a shortest solution has, which one thread finds, and workers too.
+fn expect_found<R: Threads + Sync + AllocGlobal + Abort>(
+    rt: &R,
+    guide: &Guide<'_>,
+    start: &Start,
+    wanted: u16,
+)
+    requires { IsStart guide.now.bundle start.now }
+{
+    let alone = shortest_alone(guide, start, PLENTY);
+    expect_moves(rt, &start.board, alone, wanted);
+    let workers = Workers::new(rt, rt.alloc(), 3, &OpenGate);
+    let shared = shortest(guide, start, PLENTY, &workers);
+    expect_moves(rt, &start.board, shared, wanted);
+}
+
 /// Asserts that a shortest solution of the farthest board is found, threshold by threshold.
 fn expect_shortest<R: Threads + Sync + AllocGlobal + Abort>(rt: &R, bundle: &Bundle<'_>) {
     let automaton = reversals(rt, bundle.side());
     let guide = Guide::new(bundle, &automaton);
     let start = start_of(rt, bundle, &board_of(rt, &FARTHEST));
-    let alone = shortest_alone(&guide, &start, PLENTY);
-    expect_moves(rt, &start.board, alone, 31);
-    let workers = Workers::new(rt, rt.alloc(), 3, &OpenGate);
-    let shared = shortest(&guide, &start, PLENTY, &workers);
-    expect_moves(rt, &start.board, shared, 31);
+    expect_found(rt, &guide, &start, 31);
 }
 
 #[test]
