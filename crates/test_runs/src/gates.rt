@@ -88,10 +88,7 @@ fn a_gate_is_told_of_what_makers_do(rt: HostRuntime) -> Result<(), Fail> {
     let cases = [
         ("make-table 3 14 o", [0, 744, 2016]),
         ("solve six sets o f12", [1357, 0, 0]),
-        (
-            "solve six sets o f12 --budget 8 --workers 2",
-            [1357, 0, 0],
-        ),
+        ("solve six sets o f12 --budget 8 --workers 2", [1357, 0, 0]),
         ("solve six sets o f12 --budget 1", [135, 0, 0]),
     ];
     for (words, want) in cases {

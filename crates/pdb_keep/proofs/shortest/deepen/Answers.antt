@@ -26,5 +26,5 @@ returns-in-Spent-clause-given_up g c =
     let before = c.loop-count.invariant.0 in
     let is = rw c.in-Spent.is at c.refute.ensures.answer in
     let spent = within_spent c.args.guide.now c.args.start.now.board c.args.budget c.loop-count.left c.loop-count.count before
-        is.0 is.1 is.2 in
+    is.0 is.1 is.2 in
     (before.thresholds, rw c.requires.guide at spent)
