@@ -10,8 +10,8 @@
 #
 # What is measured:
 #
-# - The boards are the ends of random walks (`make_log board`) of the seeds 1 to 10. Both searches expand the same boards in the
-#   same order, and the budget ends both. Where a search needs less, its budget is one less than it needs, so that it writes no
+# - The boards are the ends of random walks (`make_log board`) of the seeds 1 to 10. Both searches expand the same boards, and the
+#   budget ends both; a search of more than 65,536 boards is begun anew by the workers, whose time counts too. Where a search needs less, its budget is one less than it needs, so that it writes no
 #   log.
 # - A time is processor time. That of the program is a run's less that of a run on the same board in the same turn with a budget
 #   of 1, which reads and checks the tables too; the peer tells its own. Printed are nanoseconds a board by the median of the
