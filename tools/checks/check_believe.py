@@ -336,8 +336,9 @@ def check_page(page):
     run, start = clause_text("programs", "run"), clause_text("starts", "start")
     yield "the clause is quoted", quoted(page, run)
     yield "the clause of a run in memory is quoted", quoted(page, clause_text("in_memory", "run_in_memory"))
-    # It names other words in the line or the lines before.
-    same = run[1:-1] == start[1 - len(run) : -1] and run[-1].strip(" })") == start[-1].strip(" })")
+    # It names other words in the line or the lines before, and the exit status by its number.
+    last = start[-1].strip(" })").replace("(status_number result.status", "result")
+    same = run[1:-1] == start[1 - len(run) : -1] and run[-1].strip(" })") == last
     yield "the clause of start is the same", same
     text = lines_of("crates/pdb_program/specs/Headline.antt")
     last_import = max(at for at, line in enumerate(text) if line.startswith("use "))

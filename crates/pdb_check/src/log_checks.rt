@@ -3,6 +3,7 @@
 ghost use Rattle.std.specs.Prelude.{◌≡◌, ◌≤◌, length};
 ghost use Rattle.pdb_request.specs.Asked.{log_check_shown};
 ghost use Rattle.pdb_run.specs.Answers.{IsAnswerBy, all_bytes};
+ghost use Rattle.pdb_run.specs.Ended.{HasItsStatus};
 ghost use Rattle.pdb_run.specs.Runs.{Ends};
 ghost use Rattle.pdb_verdict.specs.Inputs.{files_in_order};
 ghost use Rattle.pdb_verdict.specs.Steps.{IsAnswerOver, claim_read};
@@ -10,7 +11,7 @@ ghost use Rattle.pdb_verdict.specs.Verdicts.{TakesMemory, TellsResult};
 ghost use Rattle.pdb_check.specs.Plans.{log_check_plan};
 
 use pdb_request::LogCheck;
-use pdb_run::{Command, CommandAnswer, Input, Io, Status, conclude, digested_beside, read_inputs};
+use pdb_run::{Answered, Command, Ended, Input, Io, conclude, digested_beside, read_inputs};
 use pdb_verdict::{
     Fault, TableFiles, Verdict, a_log, a_text, answer_over, begin_claim, given_up, over_tables,
     told_or_memory, with_tables,
@@ -25,11 +26,11 @@ use work_run::{Gate, Workers};
 #[derive(Clone, Copy)]
 struct CheckingLog<'c, 'n>(&'c LogCheck<&'n str>);
 
-impl Command for CheckingLog<'_, '_> {
+impl<'n> Command<'n> for CheckingLog<'_, 'n> {
     ghost plan = { λ command. log_check_plan command.0.now.claim
         (log_check_shown command.0.now) };
 
-    fn inputs(&self, alloc: Global) -> Result<Vec<Input<'_>>, AllocError> {
+    fn inputs(&self, alloc: Global) -> Result<Vec<Input<'n>>, AllocError> {
         let check = self.0;
         let texts = [
             a_text(Some(check.text)),
@@ -61,31 +62,32 @@ fn with_bytes(check: &LogCheck<&str>, inputs: Vec<Vec<u8>>) -> LogCheck<Vec<u8>>
 
 /// A whole run of `bound` or of `optimal`, whoever checks the tables and the log.
 #[inline(never)] // so that the stack has the values of one command alone
-pub fn run_log_check<H: Threads + Wait + Sync, G: Gate + Sync, I: Io>(
-    check: &LogCheck<&str>,
+pub fn run_log_check<'n, H: Threads + Wait + Sync, G: Gate + Sync, I: Io>(
+    check: &LogCheck<&'n str>,
     workers: &Workers<'_, H, G>,
     io: &mut I,
-) -> Status
+) -> Ended<'n, Fault>
+    ensures caused { HasItsStatus result }
     ensures same_streams { I.streams io.new ≡ I.streams io.old }
     ensures ends { let plan = log_check_plan check.now.claim (log_check_shown check.now) in
-        Ends plan (I.world io.old) (I.world io.new) result }
+        Ends plan (I.world io.old) (I.world io.new) result.status }
 {
     let command = CheckingLog(check);
     let mut read = match read_inputs(workers.alloc, &command, io) {
         Ok(inputs) => with_bytes(check, inputs),
-        Err(status) => return status,
+        Err(ended) => return ended,
     };
-    let answer = answer_log_check(&mut read, workers);
-    conclude(&command, &answer, io)
+    let answered = answer_log_check(&mut read, workers);
+    conclude(&command, &answered, io)
 }
 
 /// The answer to a check of a log. The board comes before all else, and takes no memory.
 fn answer_log_check<'i, H: Threads + Wait + Sync, G: Gate + Sync>(
     check: &'i mut LogCheck<Vec<u8>>,
     workers: &Workers<'_, H, G>,
-) -> Result<CommandAnswer<'i>, AllocError>
+) -> Answered<'i, AllocError, Fault>
     ensures { let claimed = claim_read check.old in
-        IsAnswerBy (TellsResult claimed) (TakesMemory claimed) result }
+        IsAnswerBy (TellsResult claimed) (TakesMemory claimed) result.answer }
 {
     let (claim, fold) = (check.claim, check.fold);
     let LogCheck {

@@ -3,13 +3,13 @@
 
 use byte_io::disk::DiskShelf;
 use byte_io::watched::Watched;
-use pdb_early::{Look, line_ahead, takes_long};
-use pdb_program::{ArgumentFault, ProgramCall, RunHost, start};
+use pdb_early::{Look, fault_ahead, takes_long};
+use pdb_program::{ArgumentFault, ProgramCall, ReadArguments, RunHost, start};
 use pdb_progress::{Watch, checked_files, is_asked_for};
-use pdb_reason::{Beginning, Heard, Reason};
+use pdb_reason::{Beginning, Reason};
 use pdb_request::Request;
-use pdb_run::AnswerLines;
-use pdb_words::read_words;
+use pdb_run::Cause;
+use pdb_verdict::Fault;
 use std::alloc::Global;
 use std::env::Env;
 use std::fs::File;
@@ -48,11 +48,6 @@ fn unreadable(rt: &HostRuntime) -> ArgumentFault {
     ArgumentFault::Memory
 }
 
-/// What the arguments ask for, where they are there and ask for anything.
-fn asked_by(alloc: Global, arguments: Option<&Vec<String>>) -> Option<Request<'_>> {
-    read_words(alloc, arguments?.get(1..).unwrap_or_default()).ok()
-}
-
 /// What a file begins with. Of what is no plain file, as a pipe, nothing is read.
 fn beginning_of(rt: &HostRuntime, name: &str) -> io::Result<Beginning> {
     let mut bytes = [0; 4096];
@@ -63,16 +58,16 @@ fn beginning_of(rt: &HostRuntime, name: &str) -> io::Result<Beginning> {
     Ok(Beginning::of(&bytes[..count]))
 }
 
-/// Tells on standard error why a run ended without a yes, by its last line, and by the bound below which its last searches ended
-/// without a solution; or why it will end so, by the line that is ahead. What can't be told is left out.
-fn tell_reason(
+/// Tells on standard error why a run ended without a yes, and the bound below which its last searches ended without a solution; or
+/// why it will end so. What can't be told is left out.
+fn tell_reason<'n>(
     rt: &HostRuntime,
-    asked: &Request<'_>,
-    line: &[u8],
+    asked: &Request<'n>,
+    why: Cause<'n, Fault>,
     ended: Option<u8>,
     is_ahead: bool,
 ) -> io::Result<()> {
-    let Some(reason) = Reason::of(asked, line, ended) else {
+    let Some(reason) = Reason::of(asked, why, ended) else {
         return Ok(());
     };
     let reason = reason.on_shelf(asked, &DiskShelf::new(rt));
@@ -84,13 +79,13 @@ fn tell_reason(
     rt.eprintln(if is_ahead { reason.ahead() } else { reason })
 }
 
-/// The line of a refusal that the starts of the files show before the run begins, where the run may take long.
+/// The refusal that the starts of the files show before the run begins, where the run may take long.
 #[inline(never)] // so that the stack hasn't its values while the run is on
-fn line_before<R: Files + Threads + Wait>(
+fn fault_before<R: Files + Threads + Wait>(
     rt: &R,
     alloc: Global,
     asked: &Request<'_>,
-) -> Option<AnswerLines> {
+) -> Option<Fault> {
     if !takes_long(rt, asked) {
         return None;
     }
@@ -99,7 +94,7 @@ fn line_before<R: Files + Threads + Wait>(
         alloc,
         files: rt,
     };
-    line_ahead(&look, asked)
+    fault_ahead(&look, asked)
 }
 
 /// The files that the run checks, in order, where they are to be told and can be.
@@ -116,34 +111,39 @@ fn main(rt: HostRuntime) -> ExitCode {
     let mut stdin = rt.stdin();
     let mut stdout = rt.stdout();
     let mut reader = Watched::new(&mut stdin);
-    let mut watched = Watched::new(&mut stdout);
-    let mut out = Heard::new(&mut watched);
+    let mut out = Watched::new(&mut stdout);
     let mut err = rt.stderr();
-    let words = arguments(&rt);
-    let asked = asked_by(rt.alloc(), words.as_ref().ok());
-    if let Some(asked) = &asked
-        && let Some(line) = line_before(&rt, rt.alloc(), asked)
+    let all = arguments(&rt);
+    let read = match &all {
+        Ok(all) => Ok(ReadArguments::of(rt.alloc(), all.as_slice())),
+        Err(fault) => Err(*fault),
+    };
+    let asked = match &read {
+        Ok(read) => read.asked.as_ref(),
+        Err(_) => None,
+    };
+    if let Some(asked) = asked
+        && let Some(fault) = fault_before(&rt, rt.alloc(), asked)
     {
         // The run goes on, whether this is told or not.
-        let _ = tell_reason(&rt, asked, line.trim_end().as_bytes(), None, true);
+        let _ = tell_reason(&rt, asked, Cause::Refused(fault), None, true);
     }
-    let gate = Watch::asked_for(&rt, files_to_tell(&rt, asked.as_ref()));
+    let gate = Watch::asked_for(&rt, files_to_tell(&rt, asked));
     let call = ProgramCall {
         host: RunHost {
             rt: &rt,
             alloc: rt.alloc(),
             gate: &gate,
         },
-        arguments: arguments(&rt),
+        arguments: match &read {
+            Ok(read) => Ok(read),
+            Err(fault) => Err(*fault),
+        },
     };
-    let status = start(call, &mut shelf, &mut reader, &mut out, &mut err);
-    if let Some(asked) = &asked
-        && status != 0
-    {
-        // Where a write failed, the last line need not be that of the last search.
-        let ended = gate.ended_below().filter(|_| status == 1);
+    let ended = start(call, &mut shelf, &mut reader, &mut out, &mut err);
+    if let (Some(asked), Some(why)) = (asked, ended.why) {
         // Nobody is left to be told that standard error failed.
-        let _ = tell_reason(&rt, asked, out.line(), ended, false);
+        let _ = tell_reason(&rt, asked, why, gate.ended_below(), false);
     }
-    ExitCode::from(status)
+    ExitCode::from(ended.status.code())
 }

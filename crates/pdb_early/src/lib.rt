@@ -8,4 +8,4 @@ mod looks;
 mod sets;
 mod tiles;
 
-pub use looks::{Look, line_ahead, takes_long};
+pub use looks::{Look, fault_ahead, takes_long};

@@ -7,8 +7,7 @@ use crate::sets::sets_fault;
 use claim_text::{Claim, read_claims};
 use log_check::LogRefusal;
 use pdb_request::{LogCheck, LogClaim, Prove, Request, Solve};
-use pdb_run::AnswerLines;
-use pdb_verdict::{Fault, begin_claim, line_of};
+use pdb_verdict::{Fault, begin_claim};
 use puz_board::{Board, Side};
 use puz_make::is_solvable;
 use std::alloc::Global;
@@ -60,22 +59,21 @@ pub fn takes_long<R: Files>(files: &R, asked: &Request<'_>) -> bool {
     bytes >= MANY_BYTES
 }
 
-/// The line of the first refusal that the starts of the files tell already, where there is one: the run that does what was asked can't
+/// The first refusal that the starts of the files tell already, where there is one: the run that does what was asked can't
 /// end in a yes, as long as its files stay. It may still be refused for another cause, which comes first and takes a check to find.
 ///
 /// Files are looked at where they are plain ones, and not read beyond 4096 bytes. Nothing is said where the text of the board or of the
 /// claims is refused, which the run tells before it checks a table.
-pub fn line_ahead<H: Threads + Wait, R: Files>(
+pub fn fault_ahead<H: Threads + Wait, R: Files>(
     look: &Look<'_, H, R>,
     asked: &Request<'_>,
-) -> Option<AnswerLines> {
-    let fault = match asked {
+) -> Option<Fault> {
+    match asked {
         Request::LogCheck(check) => log_check_fault(look, check),
         Request::Solve(search) => search_fault(look, search),
         Request::Prove(prove) => prove_fault(look, prove),
         _ => None,
-    };
-    Some(line_of(&Err(fault?)))
+    }
 }
 
 /// Of `bound` and `optimal`.

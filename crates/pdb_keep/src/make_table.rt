@@ -1,12 +1,13 @@
 //! Makes a table, and keeps it once it is found exact for the pattern that was asked for.
 
-ghost use Rattle.std.specs.Prelude.{◌≡◌, ◌↔◌, ◌∷◌, [], IsSome, IsTrue, IfErr, IfNone, IfOk, IfSome, option_map};
+ghost use Rattle.std.specs.Prelude.{◌≡◌, ◌↔◌, ◌∷◌, [], ℕ, IsSome, IsTrue, IfErr, IfNone, IfOk, IfSome, option_map};
 ghost use Rattle.puz_board.specs.Masks.{numbers_of};
 ghost use Rattle.tab_file.specs.EntryBytes.{greatest_count};
 ghost use Rattle.tab_file.specs.TableFiles.{IsTableFile};
 ghost use Rattle.tab_file.specs.Tables.{Table};
 ghost use Rattle.tab_rule.specs.Limits.{IsPassed};
 ghost use Rattle.pdb_request.specs.Asked.{make_table_shown};
+ghost use Rattle.pdb_run.specs.Ended.{HasItsStatus};
 ghost use Rattle.pdb_run.specs.Writing.{digests_of};
 ghost use Rattle.pdb_run.specs.Answers.{IsMadeBy};
 ghost use Rattle.pdb_run.specs.Runs.{Ends};
@@ -19,8 +20,8 @@ use crate::spared::spared_by_table;
 use pat_place::Pattern;
 use pdb_request::MakeTable;
 use pdb_run::{
-    Command, CommandAnswer, Digested, Digests, Input, Io, Keeping, Status, Unanswered, beside,
-    keep_and_conclude, read_inputs_and_try,
+    Answered, Command, CommandAnswer, Digested, Digests, Ended, Input, Io, Keeping, Unanswered,
+    beside, keep_and_conclude, read_inputs_and_try,
 };
 use pdb_verdict::{Fault, Verdict, line_of, settled, told, verify_table};
 use puz_board::Side;
@@ -36,10 +37,10 @@ use work_run::{Gate, Workers};
 #[derive(Clone, Copy)]
 struct Making<'n>(MakeTable<'n>);
 
-impl Command for Making<'_> {
+impl<'n> Command<'n> for Making<'n> {
     ghost plan = { λ command. make_table_plan (make_table_shown command.0) };
 
-    fn inputs(&self, alloc: Global) -> Result<Vec<Input<'_>>, AllocError> {
+    fn inputs(&self, alloc: Global) -> Result<Vec<Input<'n>>, AllocError> {
         Ok(Vec::new(alloc))
     }
 }
@@ -47,14 +48,15 @@ impl Command for Making<'_> {
 /// A whole run of `make-table`: the table is kept under its name once it is found exact. That something can be kept there, and no
 /// log is replaced unasked, is tried before the table is made.
 #[inline(never)] // so that the stack has the values of one command alone
-pub fn run_make_table<H: Threads + Wait + Sync, G: Gate + Sync, I: Io>(
-    asked: &MakeTable<'_>,
+pub fn run_make_table<'n, H: Threads + Wait + Sync, G: Gate + Sync, I: Io>(
+    asked: &MakeTable<'n>,
     workers: &Workers<'_, H, G>,
     io: &mut I,
-) -> Status
+) -> Ended<'n, Fault>
+    ensures caused { HasItsStatus result }
     ensures same_streams { I.streams io.new ≡ I.streams io.old }
     ensures ends { let plan = make_table_plan (make_table_shown asked.now) in
-        Ends plan (I.world io.old) (I.world io.new) result }
+        Ends plan (I.world io.old) (I.world io.new) result.status }
 {
     let command = Making(*asked);
     let keeping = Keeping {
@@ -63,10 +65,10 @@ pub fn run_make_table<H: Threads + Wait + Sync, G: Gate + Sync, I: Io>(
     };
     match read_inputs_and_try(workers.alloc, &command, keeping, io) {
         Ok(_inputs) => {
-            let answer = answer_make_table(asked.side, asked.mask, workers);
-            keep_and_conclude(workers.alloc, &command, &answer, asked.out, io)
+            let answered = answer_make_table(asked.side, asked.mask, workers);
+            keep_and_conclude(workers.alloc, &command, &answered, asked.out, io)
         }
-        Err(status) => status,
+        Err(ended) => ended,
     }
 }
 
@@ -75,12 +77,28 @@ fn answer_make_table<H: Threads + Wait + Sync, G: Gate + Sync>(
     side: u8,
     mask: u32,
     workers: &Workers<'_, H, G>,
-) -> Result<CommandAnswer<'static>, Unanswered>
+) -> Answered<'static, Unanswered, Fault>
     ensures { let pattern = ArePattern side mask in
-        IsMadeBy (TellsBuild side mask) pattern pattern result }
+        IsMadeBy (TellsBuild side mask) pattern pattern result.answer }
+{
+    let build = build_table(side, mask, workers);
+    let fault = build.as_ref().err().copied();
+    Answered {
+        answer: answer_of(build),
+        fault,
+    }
+}
+
+/// The answer on what is built for a side and a mask.
+fn answer_of(build: Result<Option<Built>, Fault>) -> Result<CommandAnswer<'static>, Unanswered>
+    ensures { (side mask : ℕ) → IfOk build (λ built.
+        IfSome built (λ built. IsBuilt side mask built.file.items built.said))
+        → IfOk build (λ built. IfNone built (ArePattern side mask))
+        → IfErr build (IsCauseForBuild side mask)
+        → IsMadeBy (TellsBuild side mask) (ArePattern side mask) (ArePattern side mask) result }
 {
     let nothing = Digested::Files(&[], None);
-    let build = settled(build_table(side, mask, workers))?;
+    let build = settled(build)?;
     match build {
         Ok(Some(built)) => Ok(CommandAnswer {
             digested: nothing,

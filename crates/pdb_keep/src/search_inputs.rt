@@ -15,10 +15,10 @@ use std::alloc::{AllocError, Global};
 #[derive(Clone, Copy)]
 pub(crate) struct Solving<'c, 'n>(pub(crate) &'c Solve<'n, &'n str>);
 
-impl Command for Solving<'_, '_> {
+impl<'n> Command<'n> for Solving<'_, 'n> {
     ghost plan = { λ command. solve_plan (solve_shown command.0.now) };
 
-    fn inputs(&self, alloc: Global) -> Result<Vec<Input<'_>>, AllocError> {
+    fn inputs(&self, alloc: Global) -> Result<Vec<Input<'n>>, AllocError> {
         let search = self.0;
         let texts = [a_text(Some(search.board)), a_text(Some(search.sets))];
         with_tables(alloc, &texts, search.tables.as_slice())

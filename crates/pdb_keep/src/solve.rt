@@ -4,6 +4,7 @@ ghost use Rattle.std.specs.Prelude.{◌≡◌, ◌∷◌, Bool, Err, Ok, List, �
 ghost use Rattle.puz_board.specs.BoardTexts.{Spells};
 ghost use Rattle.puz_board.specs.Boards.{side_of};
 ghost use Rattle.pdb_request.specs.Asked.{solve_shown};
+ghost use Rattle.pdb_run.specs.Ended.{HasItsStatus};
 ghost use Rattle.pdb_run.specs.Writing.{digests_of};
 ghost use Rattle.pdb_run.specs.Answers.{IsMadeBy, IsReplyOf, all_bytes, digest_lines};
 ghost use Rattle.pdb_run.specs.Runs.{Ends};
@@ -25,7 +26,7 @@ use crate::spared::spared_by_log;
 use log_check::LogRefusal;
 use pdb_request::Solve;
 use pdb_run::{
-    CommandAnswer, Digested, Io, Keeping, Status, Unanswered, beside, digested_beside,
+    Answered, CommandAnswer, Digested, Ended, Io, Keeping, Unanswered, beside, digested_beside,
     keep_and_conclude, read_inputs_and_try,
 };
 use pdb_verdict::{Fault, TableFiles, given_up, optimum_over, over_tables, settled, told};
@@ -43,14 +44,15 @@ const MANY_BOARDS: u64 = 1 << 28;
 /// once it and the moves are found to prove an optimum. That something can be kept there, and neither an input nor a table is
 /// replaced unasked, is tried before anything is checked.
 #[inline(never)] // so that the stack has the values of one command alone
-pub fn run_solve<H: Threads + Wait + Sync, G: Gate + Sync, I: Io>(
-    search: &Solve<'_, &str>,
+pub fn run_solve<'n, H: Threads + Wait + Sync, G: Gate + Sync, I: Io>(
+    search: &Solve<'n, &'n str>,
     workers: &Workers<'_, H, G>,
     io: &mut I,
-) -> Status
+) -> Ended<'n, Fault>
+    ensures caused { HasItsStatus result }
     ensures same_streams { I.streams io.new ≡ I.streams io.old }
     ensures ends { let plan = solve_plan (solve_shown search.now) in
-        Ends plan (I.world io.old) (I.world io.new) result }
+        Ends plan (I.world io.old) (I.world io.new) result.status }
 {
     let command = Solving(search);
     let keeping = Keeping {
@@ -59,10 +61,10 @@ pub fn run_solve<H: Threads + Wait + Sync, G: Gate + Sync, I: Io>(
     };
     let mut read = match read_inputs_and_try(workers.alloc, &command, keeping, io) {
         Ok(inputs) => with_bytes(search, inputs),
-        Err(status) => return status,
+        Err(ended) => return ended,
     };
-    let answer = answer_search(&mut read, workers);
-    keep_and_conclude(workers.alloc, &command, &answer, search.out, io)
+    let answered = answer_search(&mut read, workers);
+    keep_and_conclude(workers.alloc, &command, &answered, search.out, io)
 }
 
 /// The answer to a search. The board text comes before all else, and takes no memory.
@@ -70,8 +72,8 @@ pub fn run_solve<H: Threads + Wait + Sync, G: Gate + Sync, I: Io>(
 fn answer_search<'i, H: Threads + Wait + Sync, G: Gate + Sync>(
     search: &'i mut Solve<'_, Vec<u8>>,
     workers: &Workers<'_, H, G>,
-) -> Result<CommandAnswer<'i>, Unanswered>
-    ensures { IsSearchAnswer search.old result }
+) -> Answered<'i, Unanswered, Fault>
+    ensures { IsSearchAnswer search.old result.answer }
 {
     let (fold, budget) = (search.fold, search.budget);
     let Solve {
@@ -92,11 +94,18 @@ fn answer_search<'i, H: Threads + Wait + Sync, G: Gate + Sync>(
             let kept = tables.as_slice();
             let files = TableFiles { given, kept, fold };
             let (digested, outcome) = over_tables(files, None, sets, workers, search);
-            answer_of(digested, outcome)
+            let fault = outcome.as_ref().err().copied();
+            Answered {
+                answer: answer_of(digested, outcome),
+                fault,
+            }
         }
         Err(refused) => {
             let (digested, outcome) = refused_beside(workers, tables.as_slice(), refused);
-            answer_of(digested, outcome)
+            Answered {
+                answer: answer_of(digested, outcome),
+                fault: Some(Fault::Board(refused)),
+            }
         }
     }
 }

@@ -4,6 +4,7 @@ ghost use Rattle.std.specs.Prelude.{◌≡◌, ◌∷◌, ◌≤◌, IfOk, lengt
 ghost use Rattle.claim_text.specs.Parts.{AreParts};
 ghost use Rattle.pdb_request.specs.Asked.{file_names, parts_shown};
 ghost use Rattle.pdb_run.specs.Answers.{all_bytes};
+ghost use Rattle.pdb_run.specs.Ended.{HasItsStatus, status_by};
 ghost use Rattle.pdb_run.specs.Inputs.{wanted_of};
 ghost use Rattle.pdb_run.specs.Io.{IsSaid};
 ghost use Rattle.pdb_run.specs.Runs.{Ends, status_of_reply};
@@ -16,7 +17,8 @@ use crate::marks::BoundInParts;
 use crate::skipped::tell_skipped;
 use pdb_request::JoinParts;
 use pdb_run::{
-    Command, Digested, Input, Io, Status, conclude, read_inputs, say_no_memory, say_text,
+    Answered, Cause, Command, Digested, Ended, Input, Io, Status, conclude, read_inputs,
+    say_no_memory, say_text,
 };
 use pdb_verdict::{Fault, a_text, told};
 use puz_board::Board;
@@ -30,10 +32,10 @@ const ANSWERS_LIMIT: u64 = 1 << 26;
 #[derive(Clone, Copy)]
 struct Reading<'c, 'n>(&'c JoinParts<Option<&'n str>, &'n str>);
 
-impl Command for Reading<'_, '_> {
+impl<'n> Command<'n> for Reading<'_, 'n> {
     ghost plan = { λ command. reading_plan (parts_shown command.0.now) };
 
-    fn inputs(&self, alloc: Global) -> Result<Vec<Input<'_>>, AllocError> {
+    fn inputs(&self, alloc: Global) -> Result<Vec<Input<'n>>, AllocError> {
         let parts = self.0;
         with_answers(alloc, a_text(parts.board), parts.answers.as_slice())
     }
@@ -93,24 +95,29 @@ pub fn run_parts<'n, I: Io, E: Write>(
     asked: &JoinParts<Option<&'n str>, &'n str>,
     io: &mut I,
     err: &mut E,
-) -> Status
+) -> Ended<'n, Fault>
     requires { AreParts asked.now.count }
+    ensures caused { HasItsStatus result }
     ensures same_streams { I.streams io.new ≡ I.streams io.old }
     ensures ends { let plan = parts_plan (parts_shown asked.now) in
-        Ends plan (I.world io.old) (I.world io.new) result }
+        Ends plan (I.world io.old) (I.world io.new) result.status }
     ensures told { let old_err = E.contents err.old in let new_err = E.contents err.new in
-        TellsSkipped (parts_shown asked.now) (I.world io.old) old_err new_err result }
+        TellsSkipped (parts_shown asked.now) (I.world io.old) old_err new_err result.status }
 {
     let reading = Reading(asked);
     let read = match read_inputs(alloc, &reading, io) {
         Ok(inputs) => with_bytes(asked, inputs),
-        Err(status) => return status,
+        Err(ended) => return ended,
     };
     let board = match Board::read(read.board.as_slice()) {
         Ok(board) => board,
         Err(fault) => {
             let refused = told(Digested::Files(&[], None), &Err(Fault::Board(fault)));
-            return conclude(&reading, &Ok(refused), io);
+            let answered: Answered<'_, AllocError, Fault> = Answered {
+                answer: Ok(refused),
+                fault: Some(Fault::Board(fault)),
+            };
+            return conclude(&reading, &answered, io);
         }
     };
     let asked = BoundInParts {
@@ -125,27 +132,28 @@ pub fn run_parts<'n, I: Io, E: Write>(
 }
 
 /// Says what comes of parts, and then tells of the lines that were skipped.
-fn say_joined<I: Io, E: Write>(joined: &Joined, io: &mut I, err: &mut E) -> Status
+fn say_joined<'n, I: Io, E: Write>(joined: &Joined, io: &mut I, err: &mut E) -> Ended<'n, Fault>
+    ensures caused { HasItsStatus result }
     ensures same_streams { I.streams io.new ≡ I.streams io.old }
     ensures said { let status = status_of_reply joined.now.is_yes in
-        IsSaid (string_bytes joined.now.text) status (I.world io.old) (I.world io.new) result }
+        IsSaid (string_bytes joined.now.text) status (I.world io.old) (I.world io.new) result.status }
     ensures told { let text = skipped_text joined.now.counts.skipped joined.now.counts.all in
-        TellsBeside text (E.contents err.old) (E.contents err.new) result }
+        TellsBeside text (E.contents err.old) (E.contents err.new) result.status }
 {
-    let status = say_text(joined.text.as_str(), status_of(joined), io);
-    if matches!(status, Status::Yes | Status::Refused) {
+    let ended = say_text(joined.text.as_str(), cause_in(joined), io);
+    if matches!(ended.status, Status::Yes | Status::Refused) {
         tell_skipped(joined.counts, err);
     }
-    status
+    ended
 }
 
-/// The status where what comes of parts is written whole.
-fn status_of(joined: &Joined) -> Status
-    ensures { result ≡ status_of_reply joined.now.is_yes }
+/// Why what comes of parts is no yes, if it is none.
+fn cause_in<'n>(joined: &Joined) -> Option<Cause<'n, Fault>>
+    ensures { status_by result ≡ status_of_reply joined.now.is_yes }
 {
     if joined.is_yes {
-        Status::Yes
+        None
     } else {
-        Status::Refused
+        Some(Cause::Open)
     }
 }

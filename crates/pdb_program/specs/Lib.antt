@@ -4,4 +4,5 @@ pub mod PartLines
 pub mod Programs
 pub mod Refusals
 -- What proofs alone need.
+pub mod Read
 pub mod Steps

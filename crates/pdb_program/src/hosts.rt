@@ -3,6 +3,7 @@
 ghost use Rattle.std.specs.Prelude.{◌≡◌};
 ghost use Rattle.work_run.specs.Workers.{AreWorkers};
 
+use crate::arguments::ReadArguments;
 use std::alloc::Global;
 use work_run::Workers;
 
@@ -36,9 +37,9 @@ pub enum ArgumentFault {
     Unreadable(usize),
 }
 
-/// How the program is called: its host, and its arguments, of which the first is its own name.
+/// How the program is called: its host, and its arguments.
 #[derive(Drop)]
-pub struct ProgramCall<'h, H, G> {
+pub struct ProgramCall<'c, 'n, 'h, H, G> {
     pub host: RunHost<'h, H, G>,
-    pub arguments: Result<Vec<String>, ArgumentFault>,
+    pub arguments: Result<&'c ReadArguments<'n>, ArgumentFault>,
 }

@@ -1,15 +1,17 @@
 //! A run of the program on words.
 
-ghost use Rattle.std.specs.Prelude.{◌≡◌, ◌++◌, Option, map, string_bytes};
+ghost use Rattle.std.specs.Prelude.{◌≡◌, ◌++◌, None, Option, map, string_bytes};
 ghost use Rattle.byte_io.specs.Shelf.{Bytes};
-ghost use Rattle.pdb_request.specs.Asked.{ProveArguments, prove};
+ghost use Rattle.pdb_request.specs.Asked.{ProveArguments, prove, request_shown};
 ghost use Rattle.pdb_run.specs.Calls.{calls};
+ghost use Rattle.pdb_run.specs.Ended.{HasItsStatus};
 ghost use Rattle.pdb_run.specs.Inputs.{failures};
 ghost use Rattle.pdb_run.specs.Runs.{world};
 ghost use Rattle.pdb_words.specs.CommandLine.{Parses, asked_of};
 ghost use Rattle.pdb_program.specs.Headline.{Headline};
 ghost use Rattle.pdb_program.specs.PartLines.{ArePartLinesTrue};
-ghost use Rattle.pdb_program.specs.Programs.{AskToKeepNothing, EndsFor, RunsOn, TellsFor};
+ghost use Rattle.pdb_program.specs.Programs.{AskToKeepNothing, EndsFor, RunsOn, TellsFor, plan_of};
+ghost use Rattle.pdb_program.specs.Read.{IsOrderly};
 ghost use Rattle.pdb_program.specs.Refusals.{Refuses};
 
 use crate::hosts::RunHost;
@@ -22,7 +24,8 @@ use pdb_keep::{run_make_table, run_solve};
 use pdb_parts::run_parts;
 use pdb_prove::run_prove;
 use pdb_request::Request;
-use pdb_run::{BorrowedIo, Io, Status};
+use pdb_run::{BorrowedIo, Ended, Io};
+use pdb_verdict::Fault;
 use pdb_words::read_words;
 use std::alloc::Global;
 use std::io::Write;
@@ -74,36 +77,62 @@ pub fn run<H: Threads + Wait + Sync, S: Shelf, R: Source, W: Sink, E: Write, G: 
 {
     let host = RunHost { rt, alloc, gate };
     let mut io = BorrowedIo { shelf, reader, out };
-    answer(&host, words.as_slice(), &mut io, err).code()
+    answer(&host, words.as_slice(), &mut io, err).status.code()
 }
 
 /// Does what the words ask for, on any shelf, reader and output.
-pub(crate) fn answer<H: Threads + Wait + Sync, I: Io, E: Write, G: Gate + Sync>(
+pub(crate) fn answer<'n, H: Threads + Wait + Sync, I: Io, E: Write, G: Gate + Sync>(
     host: &RunHost<'_, H, G>,
-    words: &[String],
+    words: &'n [String],
     io: &mut I,
     err: &mut E,
-) -> Status
+) -> Ended<'n, Fault>
+    ensures caused { HasItsStatus result }
     ensures same_streams { I.streams io.new ≡ I.streams io.old }
     ensures ends { let words = map string_bytes words.now in Parses words
-        → EndsFor (asked_of words) (I.world io.old) (I.world io.new) result }
+        → EndsFor (asked_of words) (I.world io.old) (I.world io.new) result.status }
     ensures refuses { let words = map string_bytes words.now in
         let old = I.world io.old in let new = I.world io.new in (Parses words → ⊥)
-        → Refuses words old.written new.written (E.contents err.old) (E.contents err.new) result }
+        → Refuses words old.written new.written
+        (E.contents err.old) (E.contents err.new) result.status }
     ensures tells { let words = map string_bytes words.now in
         let old_err = E.contents err.old in let new_err = E.contents err.new in
-        Parses words → TellsFor (asked_of words) (I.world io.old) old_err new_err result }
+        Parses words → TellsFor (asked_of words) (I.world io.old) old_err new_err result.status }
     ensures same { AskToKeepNothing (map string_bytes words.now)
         → (I.world io.new).files ≡ (I.world io.old).files }
 {
-    match read_words(host.alloc, words) {
-        Ok(Request::Replay(asked)) => run_replay(host.alloc, asked, io),
-        Ok(Request::TableCheck(check)) => run_table(&check, &host.workers(check.workers), io),
-        Ok(Request::LogCheck(check)) => run_log_check(&check, &host.workers(check.workers), io),
-        Ok(Request::MakeTable(asked)) => run_make_table(&asked, &host.workers(asked.workers), io),
-        Ok(Request::Solve(search)) => run_solve(&search, &host.workers(search.workers), io),
-        Ok(Request::Prove(prove)) => run_prove(&prove, &host.workers(prove.workers), io),
-        Ok(Request::JoinParts(parts)) => run_parts(host.alloc, &parts, io, err),
-        Err(fault) => explain(fault, io, err),
+    let request = match read_words(host.alloc, words) {
+        Ok(request) => request,
+        Err(fault) => return explain(fault, io, err),
+    };
+    answer_to(host, &request, io, err)
+}
+
+/// Does what was asked for, on any shelf, reader and output.
+pub(crate) fn answer_to<'n, H: Threads + Wait + Sync, I: Io, E: Write, G: Gate + Sync>(
+    host: &RunHost<'_, H, G>,
+    request: &Request<'n>,
+    io: &mut I,
+    err: &mut E,
+) -> Ended<'n, Fault>
+    requires { IsOrderly request.now }
+    ensures caused { HasItsStatus result }
+    ensures same_streams { I.streams io.new ≡ I.streams io.old }
+    ensures ends { let asked = request_shown request.now in
+        EndsFor asked (I.world io.old) (I.world io.new) result.status }
+    ensures tells { let asked = request_shown request.now in
+        let old_err = E.contents err.old in let new_err = E.contents err.new in
+        TellsFor asked (I.world io.old) old_err new_err result.status }
+    ensures same { (plan_of (request_shown request.now)).keeps_under ≡ None
+        → (I.world io.new).files ≡ (I.world io.old).files }
+{
+    match request {
+        Request::Replay(asked) => run_replay(host.alloc, *asked, io),
+        Request::TableCheck(check) => run_table(check, &host.workers(check.workers), io),
+        Request::LogCheck(check) => run_log_check(check, &host.workers(check.workers), io),
+        Request::MakeTable(asked) => run_make_table(asked, &host.workers(asked.workers), io),
+        Request::Solve(search) => run_solve(search, &host.workers(search.workers), io),
+        Request::Prove(prove) => run_prove(prove, &host.workers(prove.workers), io),
+        Request::JoinParts(parts) => run_parts(host.alloc, parts, io, err),
     }
 }

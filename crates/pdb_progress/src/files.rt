@@ -1,7 +1,7 @@
 //! The files that a run checks.
 
+use crate::names::ShownName;
 use crate::shares::Share;
-use pdb_reason::ShownName;
 use pdb_request::Request;
 use std::alloc::{AllocError, Global};
 use std::fmt;

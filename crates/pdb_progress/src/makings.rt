@@ -1,7 +1,7 @@
 //! How far a table is made.
 
+use crate::names::ShownName;
 use crate::shares::Share;
-use pdb_reason::ShownName;
 use std::fmt;
 use std::fmt::{Display, Formatter};
 

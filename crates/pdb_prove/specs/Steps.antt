@@ -27,6 +27,7 @@ use Rattle.pdb_verdict.specs.declared.verdicts.Fault.{Fault}
 use Rattle.pdb_verdict.specs.declared.verdicts.Fault.TheVariants as fault
 use Rattle.pdb_prove.specs.Answers.{IsFoundFor, IsToldOf, are_yes}
 use Rattle.pdb_prove.specs.Prove.{ClaimsFiles, IsUnready, told_lines}
+use Rattle.pdb_prove.specs.declared.batches.OneTold.{OneTold}
 use Rattle.pdb_prove.specs.declared.batches.Telling.{Telling}
 use Rattle.pdb_prove.specs.declared.prepared.Prepared.{Prepared}
 use Rattle.pdb_prove.specs.declared.runs.ClaimsRead.{ClaimsRead}
@@ -106,8 +107,9 @@ module _ (v : ShownBundle) (budget : ℕ) (old new : World) where
     pub written : IsWritten (told_lines told) old new (Err fault)
 
 -- one of the two
-abbrev pub AreTold : ShownBundle → ℕ → List ShownClaim → World → World → Result Bool WriteFault → Type 0
-AreTold v budget claims old new result = MatchResult result (AreAllTold v budget old new claims) (λ _. AreCut v budget old new claims)
+abbrev pub AreTold : ShownBundle → ℕ → List ShownClaim → World → World → Result OneTold WriteFault → Type 0
+AreTold v budget claims old new result =
+    MatchResult result (λ one. AreAllTold v budget old new claims one.is_yes) (λ _. AreCut v budget old new claims)
 
 -- so many claims were answered, the first ones, and their lines written
 pub record IsToldTo (v : ShownBundle) (budget : ℕ) (claims : List ShownClaim) (old new : World) (telling : Telling) : Type 0 where
@@ -119,9 +121,10 @@ abbrev pub IsTelling : ShownBundle → ℕ → List ShownClaim → World → Wor
 IsTelling v budget claims old new result = MatchResult result (IsToldTo v budget claims old new) (λ _. AreCut v budget old new claims)
 
 -- all were answered, or nothing was written since words are wanted first, or a front was written
-abbrev pub IsToldOrWanted : ShownBundle → ℕ → List ShownClaim → World → World → Result (Option Bool) WriteFault → Type 0
+abbrev pub IsToldOrWanted : ShownBundle → ℕ → List ShownClaim → World → World → Result (Option OneTold) WriteFault → Type 0
 IsToldOrWanted v budget claims old new result =
-    MatchResult result (λ one. MatchOption one (new ≡ old) (AreAllTold v budget old new claims)) (λ _. AreCut v budget old new claims)
+    MatchResult result (λ one. MatchOption one (new ≡ old) (λ told. AreAllTold v budget old new claims told.is_yes))
+    (λ _. AreCut v budget old new claims)
 
 -- ---- the memory for words
 

@@ -19,6 +19,7 @@ use byte_io::streams::WriteFault;
 use claim_text::Claim;
 use move_strings::Automaton;
 use pdb_run::Io;
+use pdb_verdict::Fault;
 use puz_search::{Guide, Sets};
 use puz_walk::Start;
 use std::thread::Threads;
@@ -83,6 +84,17 @@ pub(crate) struct Telling {
     pub(crate) told: usize,
     /// Whether each of them is answered with a yes.
     pub(crate) is_yes: bool,
+    /// Why the last of them is refused, if there is one and it is.
+    pub(crate) last: Option<Fault>,
+}
+
+/// How a claim is told.
+#[derive(Clone, Copy)]
+pub(crate) struct OneTold {
+    /// Whether it is answered with a yes.
+    pub(crate) is_yes: bool,
+    /// Why it is refused, if it is.
+    pub(crate) refused: Option<Fault>,
 }
 
 /// Claims, the first of which has this number, and the budget of each.
@@ -118,6 +130,7 @@ pub(crate) fn tell_claims<H: Threads + Sync, G: Gate + Sync, I: Io>(
     let claims = asked.claims;
     let mut told = 0;
     let mut is_yes = true;
+    let mut last = None;
     while told < claims.len() {
         let count = BATCH.min(claims.len() - told);
         let (next, _) = claims[told..].split_at(count);
@@ -134,14 +147,15 @@ pub(crate) fn tell_claims<H: Threads + Sync, G: Gate + Sync, I: Io>(
             Ok(telling) => {
                 told += telling.told;
                 is_yes &= telling.is_yes;
+                last = telling.last;
                 if telling.told < next.len() {
-                    return Ok(Telling { told, is_yes });
+                    return Ok(Telling { told, is_yes, last });
                 }
             }
             Err(fault) => return Err(fault),
         }
     }
-    Ok(Telling { told, is_yes })
+    Ok(Telling { told, is_yes, last })
 }
 
 /// Tells the claims of a batch, until words are wanted.
@@ -197,13 +211,18 @@ fn tell_each<H: Threads + Sync, G: Gate + Sync, I: Io>(
         IsTelling v batch.budget shown (I.world io.old) (I.world io.new) result }
 {
     let mut is_yes = true;
+    let mut last = None;
     for number in 0..known.batch.claims.len() {
         match tell_next(known, number, help, workers, io) {
-            Ok(Some(one)) => is_yes &= one,
+            Ok(Some(one)) => {
+                is_yes &= one.is_yes;
+                last = one.refused;
+            }
             Ok(None) => {
                 return Ok(Telling {
                     told: number,
                     is_yes,
+                    last,
                 });
             }
             Err(fault) => return Err(fault),
@@ -212,17 +231,18 @@ fn tell_each<H: Threads + Sync, G: Gate + Sync, I: Io>(
     Ok(Telling {
         told: known.batch.claims.len(),
         is_yes,
+        last,
     })
 }
 
-/// Tells the claim of a batch that has this number in it, unless words are wanted first: whether it is answered with a yes.
+/// Tells the claim of a batch that has this number in it, unless words are wanted first.
 fn tell_next<H: Threads + Sync, G: Gate + Sync, I: Io>(
     known: &BegunBatch<'_>,
     number: usize,
     help: &mut Help<'_>,
     workers: &Workers<'_, H, G>,
     io: &mut I,
-) -> Result<Option<bool>, WriteFault>
+) -> Result<Option<OneTold>, WriteFault>
     requires number { number < length known.now.batch.now.claims.now }
     requires few { All (λ claim. HasFewLetters (claim_shown claim)) known.now.batch.now.claims.now }
     requires right { let b = known.now.batch.now in
@@ -256,13 +276,13 @@ fn tell_next<H: Threads + Sync, G: Gate + Sync, I: Io>(
     }
 }
 
-/// Tells what is found for a claim of a batch: whether it is a yes.
+/// Tells what is found for a claim of a batch.
 fn tell<I: Io>(
     batch: &Batch<'_>,
     claim: &Claim<'_>,
     found: &Finding,
     io: &mut I,
-) -> Result<Option<bool>, WriteFault>
+) -> Result<Option<OneTold>, WriteFault>
     requires few { HasFewLetters (claim_shown claim.now) }
     requires found { let batch = batch.now in let shown = claim_shown claim.now in
         IsFoundFor (bundle_of batch.sets) batch.budget shown found.now }
@@ -273,7 +293,18 @@ fn tell<I: Io>(
         (I.world io.old) (I.world io.new) result }
 {
     match io.write_text(line_on(claim, found).as_str()) {
-        Ok(()) => Ok(Some(found.is_yes())),
+        Ok(()) => Ok(Some(OneTold {
+            is_yes: found.is_yes(),
+            refused: refused_in(found),
+        })),
         Err(fault) => Err(fault),
+    }
+}
+
+/// Why a claim for which this is found is refused, if it is.
+fn refused_in(found: &Finding) -> Option<Fault> {
+    match found {
+        Finding::Refused(refused) => Some(*refused),
+        _ => None,
     }
 }

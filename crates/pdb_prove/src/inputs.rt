@@ -19,10 +19,10 @@ const CLAIMS_LIMIT: u64 = 1 << 26;
 #[derive(Clone, Copy)]
 pub(crate) struct Proving<'c, 'n>(pub(crate) &'c Prove<Option<&'n str>, &'n str>);
 
-impl Command for Proving<'_, '_> {
+impl<'n> Command<'n> for Proving<'_, 'n> {
     ghost plan = { λ command. prove_plan (prove_shown command.0.now) };
 
-    fn inputs(&self, alloc: Global) -> Result<Vec<Input<'_>>, AllocError> {
+    fn inputs(&self, alloc: Global) -> Result<Vec<Input<'n>>, AllocError> {
         let prove = self.0;
         let texts = [a_claims_text(prove.claims), a_text(Some(prove.sets))];
         with_tables(alloc, &texts, prove.tables.as_slice())

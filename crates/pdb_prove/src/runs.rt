@@ -10,15 +10,16 @@ ghost use Rattle.puz_walk.specs.WordBundles.{HaveWords};
 ghost use Rattle.byte_io.specs.Shelf.{Bytes};
 ghost use Rattle.pdb_request.specs.Asked.{prove_shown};
 ghost use Rattle.pdb_run.specs.Answers.{all_bytes, answer_text, digest_lines};
+ghost use Rattle.pdb_run.specs.Ended.{HasItsStatus};
 ghost use Rattle.pdb_run.specs.Io.{HasRead, IsWritten};
-ghost use Rattle.pdb_run.specs.Runs.{World, status_of_reply};
+ghost use Rattle.pdb_run.specs.Runs.{World};
 ghost use Rattle.pdb_run.specs.Writing.{digests_of};
 ghost use Rattle.pdb_verdict.specs.FileBundles.{IsBundleOfFiles};
 ghost use Rattle.pdb_prove.specs.Posed.{ArePosed};
 ghost use Rattle.pdb_prove.specs.Prove.{AreReady, ClaimsFiles, ProveEnds, budget_of, digested_files, in_order, prove_inputs};
 ghost use Rattle.pdb_prove.specs.Steps.{AreCut, AreTold, IsCauseForClaims, IsPreparedFor, IsToldTo, IsWantedFor, PrunesFor, files_of};
 
-use crate::batches::{Asked, Telling, tell_claims};
+use crate::batches::{Asked, OneTold, Telling, tell_claims};
 use crate::help::Help;
 use crate::inputs::{Proving, with_bytes};
 use crate::prepared::Prepared;
@@ -28,7 +29,7 @@ use claim_text::{Claim, read_claims};
 use edge_words::Words;
 use move_strings::Automaton;
 use pdb_request::Prove;
-use pdb_run::{AnswerLines, CommandAnswer, Digested, Io, Status, conclude, read_inputs};
+use pdb_run::{AnswerLines, Cause, CommandAnswer, Digested, Ended, Io, conclude, read_inputs};
 use pdb_verdict::{Fault, TableFiles, given_up, over_tables, told_or_memory};
 use puz_walk::{Outline, Start, WordBundle};
 use std::convert::identity;
@@ -43,14 +44,16 @@ pub fn run_prove<'n, H: Threads + Wait + Sync, G: Gate + Sync, I: Io>(
     prove: &Prove<Option<&'n str>, &'n str>,
     workers: &Workers<'_, H, G>,
     io: &mut I,
-) -> Status
+) -> Ended<'n, Fault>
+    ensures caused { HasItsStatus result }
     ensures same_streams { I.streams io.new ≡ I.streams io.old }
-    ensures ends { ProveEnds (prove_shown prove.now) (I.world io.old) (I.world io.new) result }
+    ensures ends { let arguments = prove_shown prove.now in
+        ProveEnds arguments (I.world io.old) (I.world io.new) result.status }
 {
     let command = Proving(prove);
     let files = match read_inputs(workers.alloc, &command, io) {
         Ok(inputs) => with_bytes(prove, inputs),
-        Err(status) => return status,
+        Err(ended) => return ended,
     };
     let tables = files.tables;
     let text = files.claims.as_slice();
@@ -82,21 +85,22 @@ struct ClaimsRead<'c> {
 /// The rest of a run over claims that were read. Over full tables words may be wanted: once there is memory for them, the bundle is
 /// given up, and then the bytes of each table as its words are made.
 #[inline(never)] // so that the stack hasn't what was needed to read them
-fn tell_all<H: Threads + Wait + Sync, G: Gate + Sync, I: Io>(
-    command: &Proving<'_, '_>,
+fn tell_all<'n, H: Threads + Wait + Sync, G: Gate + Sync, I: Io>(
+    command: &Proving<'_, 'n>,
     read: ClaimsRead<'_>,
     mut tables: Vec<Vec<u8>>,
     workers: &Workers<'_, H, G>,
     io: &mut I,
-) -> Status
+) -> Ended<'n, Fault>
     requires are { AreClaims read.text.now (map claim_shown read.claims.items) }
     requires few { All (λ claim. HasFewLetters (claim_shown claim)) read.claims.items }
+    ensures caused { HasItsStatus result }
     ensures same_streams { I.streams io.new ≡ I.streams io.old }
     ensures ends { let arguments = prove_shown command.now.0.now in
         let files = files_of read.entry tables.items in (old : World)
         → HasRead (prove_inputs arguments) old (I.world io.old) (in_order files)
         → read.entry.fold ≡ arguments.fold
-        → ProveEnds arguments old (I.world io.new) result }
+        → ProveEnds arguments old (I.world io.new) result.status }
 {
     let fold = read.fold;
     let given = given_up(&mut tables, fold);
@@ -106,15 +110,15 @@ fn tell_all<H: Threads + Wait + Sync, G: Gate + Sync, I: Io>(
     let ready = ready_with(workers.alloc, read.claims, bundle);
     let ready = match begin(command, digested, ready, io) {
         Ok(ready) => ready,
-        Err(status) => return status,
+        Err(ended) => return ended,
     };
     let budget = budget_of(command.0);
     let (telling, wanted) = match tell_over_tables(&ready, !fold, budget, workers, io) {
         Ok(told) => told,
-        Err(_) => return Status::Fault,
+        Err(_) => return Ended::by(Some(Cause::Unwritten)),
     };
     let Some(wanted) = wanted else {
-        return status_of(telling.is_yes);
+        return Ended::answered(telling.is_yes, telling.last);
     };
     let (claims, starts, reversals) = without_bundle(ready);
     let worded = wanted.fill(tables, workers);
@@ -125,8 +129,8 @@ fn tell_all<H: Threads + Wait + Sync, G: Gate + Sync, I: Io>(
         budget,
     };
     match tell_over_words(asked, worded, &reversals, workers, io) {
-        Ok(is_yes) => status_of(telling.is_yes & is_yes),
-        Err(_) => Status::Fault,
+        Ok(rest) => Ended::answered(telling.is_yes & rest.is_yes, rest.refused),
+        Err(_) => Ended::by(Some(Cause::Unwritten)),
     }
 }
 
@@ -223,14 +227,14 @@ fn wanted_by(help: Help<'_>) -> Option<Wanted>
     Some(Wanted { prepared, strings })
 }
 
-/// Tells claims in their order over words: whether all of them are answered with a yes.
+/// Tells all claims in their order over words.
 fn tell_over_words<H: Threads + Sync, G: Gate + Sync, I: Io>(
     asked: Asked<'_>,
     worded: Worded,
     reversals: &Automaton,
     workers: &Workers<'_, H, G>,
     io: &mut I,
-) -> Result<bool, WriteFault>
+) -> Result<OneTold, WriteFault>
     requires few { All (λ claim. HasFewLetters (claim_shown claim)) asked.claims.now }
     requires posed { ArePosed worded.outline.value asked.claims.now asked.starts.now }
     requires words { HaveWords worded.outline.value worded.words.items }
@@ -251,30 +255,34 @@ fn tell_over_words<H: Threads + Sync, G: Gate + Sync, I: Io>(
     };
     let mut help = Help::over_words(&bundle, reversals, strings);
     match tell_claims(asked, &mut help, workers, io) {
-        Ok(telling) => Ok(telling.is_yes),
+        Ok(telling) => Ok(OneTold {
+            is_yes: telling.is_yes,
+            refused: telling.last,
+        }),
         Err(fault) => Err(fault),
     }
 }
 
 /// Tells the digests where all is ready, and else why nothing is searched.
-fn begin<'b, 'c, I: Io>(
-    command: &Proving<'_, '_>,
+fn begin<'n, 'b, 'c, I: Io>(
+    command: &Proving<'_, 'n>,
     digested: Digested<'b>,
     ready: Result<Ready<'b, 'c>, Fault>,
     io: &mut I,
-) -> Result<Ready<'b, 'c>, Status>
+) -> Result<Ready<'b, 'c>, Ended<'n, Fault>>
+    ensures caused { IfErr result HasItsStatus }
     ensures same_streams { I.streams io.new ≡ I.streams io.old }
     ensures ready { IfOk result (λ begun. ready.entry ≡ Ok begun) }
     ensures begun { IfOk result (λ begun. IsWritten (digest_lines digested.entry)
         (I.world io.old) (I.world io.new) (Ok tt)) }
-    ensures ended { IfErr result (λ status. let arguments = prove_shown command.now.0.now in
+    ensures ended { IfErr result (λ ended. let arguments = prove_shown command.now.0.now in
         (files : ClaimsFiles) (old : World)
         → HasRead (prove_inputs arguments) old (I.world io.old) (in_order files)
         → digest_lines digested.entry ≡ digests_of (digested_files files)
         → IfOk ready.entry (λ begun.
         AreReady arguments.fold files (map claim_shown begun.claims.items) begun.bundle)
         → IfErr ready.entry (IsCauseForClaims arguments.fold files)
-        → ProveEnds arguments old (I.world io.new) status) }
+        → ProveEnds arguments old (I.world io.new) ended.status) }
 {
     let ready = match ready {
         Ok(ready) => ready,
@@ -282,34 +290,28 @@ fn begin<'b, 'c, I: Io>(
     };
     match io.write_answer(&digests_alone(digested)) {
         Ok(()) => Ok(ready),
-        Err(_) => Err(Status::Fault),
+        Err(_) => Err(Ended::by(Some(Cause::Unwritten))),
     }
 }
 
 /// Tells why nothing is searched.
 #[inline(never)] // so that the stack hasn't its values while claims are searched for
-fn tell_fault<I: Io>(
-    command: &Proving<'_, '_>,
+fn tell_fault<'n, I: Io>(
+    command: &Proving<'_, 'n>,
     digested: Digested<'_>,
     fault: Fault,
     io: &mut I,
-) -> Status
+) -> Ended<'n, Fault>
+    ensures caused { HasItsStatus result }
     ensures same_streams { I.streams io.new ≡ I.streams io.old }
     ensures ends { let arguments = prove_shown command.now.0.now in
         (files : ClaimsFiles) (old : World)
         → HasRead (prove_inputs arguments) old (I.world io.old) (in_order files)
         → digest_lines digested.entry ≡ digests_of (digested_files files)
         → IsCauseForClaims arguments.fold files fault
-        → ProveEnds arguments old (I.world io.new) result }
+        → ProveEnds arguments old (I.world io.new) result.status }
 {
     conclude(command, &told_or_memory(digested, Err(fault)), io)
-}
-
-/// The status of a run in which all claims were answered, each with a yes or not.
-fn status_of(is_yes: bool) -> Status
-    ensures { result ≡ status_of_reply is_yes }
-{
-    if is_yes { Status::Yes } else { Status::Refused }
 }
 
 /// How many boards may be expanded for a claim.

@@ -1,12 +1,13 @@
 //! Why a run ended without a yes.
 
-use crate::answers::Ending;
 use crate::beginnings::Beginning;
-use crate::names::ShownName;
 use crate::outs::spared_text;
-use crate::texts::{NO_MEMORY, Subject, Text, WRONG, fault_text, text_of};
+use crate::texts::{NO_MEMORY, Subject, TOO_LONG, Text, UNKEPT, UNREAD, WRONG, text_of};
 use byte_io::shelf::Shelf;
-use pdb_request::{JoinParts, Prove, Replay, Request};
+use pdb_progress::ShownName;
+use pdb_request::Request;
+use pdb_run::Cause;
+use pdb_verdict::Fault;
 use std::fmt;
 use std::fmt::{Display, Formatter};
 
@@ -28,7 +29,6 @@ pub struct Reason<'a> {
     subject: Subject,
     name: Named<'a>,
     text: Text,
-    numbers: [u64; 2],
     /// The greatest bound below which searches ended without a solution before the budget was spent, where that is known.
     ended: Option<u8>,
     beginning: Beginning,
@@ -37,22 +37,21 @@ pub struct Reason<'a> {
 }
 
 impl<'a> Reason<'a> {
-    /// Why the run that does what was asked ended with this line, where that is no yes. Of an answer to a claim it is told only where
-    /// it says more: that the budget is spent, and how far the searches came. `ended` is the greatest bound below which the last
-    /// searches ended without a solution, where there is one.
-    pub fn of(asked: &Request<'a>, line: &'a [u8], ended: Option<u8>) -> Option<Reason<'a>> {
-        match Ending::of(line)? {
-            Ending::Refused("K1", _) => spent(asked, ended),
-            Ending::Refused(code, numbers) => refusal(asked, code, numbers),
-            Ending::Fault(kind, name) => Some(fault(asked, kind, name)?),
-            Ending::Maker => Some(told(Subject::Run, Named::Nothing, Text::Plain(WRONG), [0; 2])),
-            Ending::NoMemory => Some(told(
-                Subject::Run,
-                Named::Nothing,
-                Text::Plain(NO_MEMORY),
-                [0; 2],
-            )),
-        }
+    /// Why the run that does what was asked ended without a yes, where a sentence tells it. Of an answer to a claim it is told only
+    /// where it says more than its line: that the budget is spent, and how far the searches came. `ended` is the greatest bound below
+    /// which the last searches ended without a solution, where there is one.
+    pub fn of(asked: &Request<'a>, why: Cause<'a, Fault>, ended: Option<u8>) -> Option<Reason<'a>> {
+        let (subject, name, text) = match why {
+            Cause::Refused(Fault::K1) => return spent(asked, ended),
+            Cause::Refused(fault) => return refusal(asked, fault),
+            Cause::Unread(name) => (Subject::Run, file_or_input(name), UNREAD),
+            Cause::TooLong(name) => (Subject::Run, file_or_input(name), TOO_LONG),
+            Cause::Unkept(name) => (Subject::Out, Named::File(name), UNKEPT),
+            Cause::MadeWrong => (Subject::Run, Named::Nothing, WRONG),
+            Cause::NoMemory => (Subject::Run, Named::Nothing, NO_MEMORY),
+            Cause::Unwritten | Cause::Words | Cause::Open => return None,
+        };
+        Some(told(subject, name, Text::Plain(text)))
     }
 
     /// The file that it speaks of, if that is one with a name.
@@ -79,7 +78,7 @@ impl<'a> Reason<'a> {
     pub fn beginning(self, beginning: Beginning) -> Reason<'a> {
         let beginning = match (self.subject, beginning) {
             (Subject::Run | Subject::Out, _) => Beginning::OfAny,
-            (Subject::Table, Beginning::OfTable) => Beginning::OfAny,
+            (Subject::Table(_), Beginning::OfTable) => Beginning::OfAny,
             (Subject::Log, Beginning::OfLog) => Beginning::OfAny,
             (Subject::Goal, Beginning::OfBoardWithBlankLast) => beginning,
             (_, Beginning::OfBoardWithBlankLast) => Beginning::OfAny,
@@ -111,11 +110,10 @@ impl Display for Reason<'_> {
             Named::LastClaim => f.write_str("the last claim: ")?,
             Named::Nothing => {}
         }
-        let [first, second] = self.numbers;
         match self.text {
             Text::Plain(a) => f.write_str(a)?,
-            Text::One(a, b) => write!(f, "{a}{first}{b}")?,
-            Text::Two(a, b, c) => write!(f, "{a}{first}{b}{second}{c}")?,
+            Text::One(a, first, b) => write!(f, "{a}{first}{b}")?,
+            Text::Two(a, first, b, second, c) => write!(f, "{a}{first}{b}{second}{c}")?,
         }
         if let Some(bound) = self.ended {
             write!(
@@ -128,12 +126,11 @@ impl Display for Reason<'_> {
 }
 
 /// A reason of a file that begins as any does.
-fn told<'a>(subject: Subject, name: Named<'a>, text: Text, numbers: [u64; 2]) -> Reason<'a> {
+fn told(subject: Subject, name: Named<'_>, text: Text) -> Reason<'_> {
     Reason {
         subject,
         name,
         text,
-        numbers,
         ended: None,
         beginning: Beginning::OfAny,
         is_ahead: false,
@@ -148,54 +145,25 @@ fn spent<'a>(asked: &Request<'a>, ended: Option<u8>) -> Option<Reason<'a>> {
         (Request::Prove(_), Some(_)) => Named::LastClaim,
         _ => Named::Nothing,
     };
-    let (subject, text) = text_of("K1")?;
-    let reason = told(subject, name, text, [0; 2]);
+    let (subject, text) = text_of(Fault::K1);
+    let reason = told(subject, name, text);
     Some(Reason { ended, ..reason })
 }
 
-/// Why an input can't be read, or nothing can be kept.
-fn fault<'a>(asked: &Request<'a>, kind: &str, name: &'a str) -> Option<Reason<'a>> {
-    let text = Text::Plain(fault_text(kind)?);
-    if kind == "write" {
-        return Some(told(Subject::Out, Named::File(name), text, [0; 2]));
-    }
-    let reads_input = matches!(
-        asked,
-        Request::Replay(Replay { puzzle: None })
-            | Request::Prove(Prove { claims: None, .. })
-            | Request::JoinParts(JoinParts { board: None, .. })
-    );
-    let name = if reads_input && name == "-" {
-        Named::StandardInput
-    } else {
-        Named::File(name)
-    };
-    Some(told(Subject::Run, name, text, [0; 2]))
-}
-
 /// Why a run was refused. What `prove` answers to a claim has the claim in its line, and no reason besides.
-fn refusal<'a>(asked: &Request<'a>, code: &str, numbers: [u64; 2]) -> Option<Reason<'a>> {
-    let (subject, text) = text_of(code)?;
+fn refusal<'a>(asked: &Request<'a>, fault: Fault) -> Option<Reason<'a>> {
+    let (subject, text) = text_of(fault);
     if matches!(
         (asked, subject),
         (Request::Prove(_), Subject::Goal | Subject::Run)
     ) {
         return None;
     }
-    let name = match (subject, code) {
-        (Subject::Table, "T7") => table_name(asked, numbers[1]),
-        (Subject::Table, _) => table_name(asked, numbers[0]),
-        (subject, _) => name_of(asked, subject),
-    };
-    Some(told(subject, name, text, numbers))
+    Some(told(subject, name_of(asked, subject), text))
 }
 
-/// The table with this number, or the one table.
-fn table_name<'a>(asked: &Request<'a>, number: u64) -> Named<'a> {
-    let number = match asked {
-        Request::TableCheck(_) => 0,
-        _ => usize::try_from(number).unwrap_or(usize::MAX),
-    };
+/// The table with this number.
+fn table_name<'a>(asked: &Request<'a>, number: usize) -> Named<'a> {
     let name = asked.tables().get(number);
     name.map_or(Named::Nothing, |name| Named::File(name))
 }
@@ -208,6 +176,7 @@ fn file_or_input(name: Option<&str>) -> Named<'_> {
 /// What a sentence names.
 fn name_of<'a>(asked: &Request<'a>, subject: Subject) -> Named<'a> {
     match (asked, subject) {
+        (_, Subject::Table(number)) => table_name(asked, number),
         (Request::Replay(replay), Subject::Board | Subject::Goal) => file_or_input(replay.puzzle),
         (Request::LogCheck(check), Subject::Board | Subject::Goal) => Named::File(check.text),
         (Request::LogCheck(check), Subject::Sets) => Named::File(check.sets),

@@ -2,6 +2,7 @@
 pub mod Answers
 pub mod Calls
 pub mod Commands
+pub mod Ended
 pub mod Inputs
 pub mod Io
 pub mod Runs

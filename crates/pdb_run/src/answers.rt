@@ -39,6 +39,13 @@ pub struct CommandAnswer<'a> {
         ≡ option_map (λ _. digests_of (list_of (option_map (λ v. v.items) made))) made_digest },
 }
 
+/// An answer, or why there is none, and the fault for which it is no yes, where that has one cause.
+#[derive(Drop)]
+pub struct Answered<'a, E, F> {
+    pub answer: Result<CommandAnswer<'a>, E>,
+    pub fault: Option<F>,
+}
+
 /// Why a maker has no answer.
 #[derive(Clone, Copy, Debug, PartialEq, Eq)]
 pub enum Unanswered {

@@ -17,12 +17,12 @@ pub struct Input<'a> {
 ///
 /// Its check stands between `read_inputs` and `conclude`, in a function of its own: so a command that waits for nobody
 /// has a run that returns. One that makes a file to keep ends by `keep_and_conclude`.
-pub trait Command {
+pub trait Command<'n> {
     /// What it does, as far as the outside sees it.
     ghost plan: { Self → Plan };
 
     /// Its inputs, in order.
-    fn inputs(&self, alloc: Global) -> Result<Vec<Input<'_>>, AllocError>
+    fn inputs(&self, alloc: Global) -> Result<Vec<Input<'n>>, AllocError>
         ensures all { IfOk result (λ inputs. map wanted_of inputs.items ≡ (plan self.now).inputs) }
         ensures memory { OnErr result (0 < length (plan self.now).inputs) };
 }

@@ -4,6 +4,7 @@
 mod answers;
 mod commands;
 mod digests;
+mod ends;
 mod inputs;
 mod io;
 mod pages;
@@ -11,11 +12,12 @@ mod runs;
 mod statuses;
 mod writing;
 
-pub use answers::{AnswerLines, CommandAnswer, Digested, LINES_LEN, Unanswered, lines};
+pub use answers::{AnswerLines, Answered, CommandAnswer, Digested, LINES_LEN, Unanswered, lines};
 pub use commands::{Command, Input};
 pub use digests::{
     DIGEST_LEN, DIGESTS_LEN, Digests, FILES_BESIDE, beside, digested_beside, with_digest,
 };
+pub use ends::{Cause, Ended};
 pub use inputs::{Unread, load_all};
 pub use io::{BorrowedIo, Io};
 pub use runs::{

@@ -1,19 +1,21 @@
 //! A run of a command: its beginning and its end. Between them the command checks.
 
-ghost use Rattle.std.specs.Prelude.{◌≡◌, List, None, Some, false, length, map, true, MatchResult, IfErr, IfOk, OnErr, OnOk};
+ghost use Rattle.std.specs.Prelude.{◌≡◌, List, None, Some, codes, false, length, map, true, MatchResult, IfErr, IfOk, OnErr, OnOk};
 ghost use Rattle.byte_io.specs.Shelf.{Bytes};
 ghost use Rattle.pdb_run.specs.Answers.{IsAnswerBy, IsMadeBy, all_bytes, answer_text};
+ghost use Rattle.pdb_run.specs.Ended.{HasItsStatus, status_by};
 ghost use Rattle.pdb_run.specs.Inputs.{wanted_of};
 ghost use Rattle.pdb_run.specs.Io.{HasRead, HasReadAndTried, IsKept, IsNotKept, IsSaid};
 ghost use Rattle.pdb_run.specs.Runs.{Ends, MayReplaceBy, SparesBy, World, status_of, status_of_reply, text_of, unkept_status, unkept_text, unread};
 ghost use Rattle.pdb_run.specs.Steps.{fronts_in, kept_of};
-ghost use Rattle.pdb_run.specs.Writing.{memory_line, named_line, shown, shown_byte};
+ghost use Rattle.pdb_run.specs.declared.statuses.Status.{Status};
+ghost use Rattle.pdb_run.specs.Writing.{maker_line, memory_line, named_line, shown, shown_byte};
 
-use crate::answers::{CommandAnswer, Unanswered};
+use crate::answers::{Answered, CommandAnswer, Unanswered};
 use crate::commands::{Command, Input};
+use crate::ends::{Cause, Ended};
 use crate::inputs::{Unread, load_all};
 use crate::io::Io;
-use crate::statuses::Status;
 use byte_io::shelf::KeepFault;
 use byte_io::streams::{ReadFault, WriteFault};
 use std::alloc::{AllocError, Global};
@@ -26,17 +28,19 @@ const MADE_WRONG: &str = "fault maker\n";
 
 /// Reads the inputs of a command. Where one can't be read, that is said, and the run has ended.
 #[tactic(auto, using(crate::proofs::AnswerLemmas::ends_unlisted))]
-pub fn read_inputs<C: Command, I: Io>(
+pub fn read_inputs<'n, C: Command<'n>, F: Copy, I: Io>(
     alloc: Global,
     command: &C,
     io: &mut I,
-) -> Result<Vec<Vec<u8>>, Status>
+) -> Result<Vec<Vec<u8>>, Ended<'n, F>>
+    ensures caused { IfErr result HasItsStatus }
     ensures same_streams { I.streams io.new ≡ I.streams io.old }
     ensures read { let wanted = (C.plan command.now).inputs in IfOk result
         (λ inputs. HasRead wanted (I.world io.old) (I.world io.new) (all_bytes inputs.items)) }
     ensures count { let wanted = (C.plan command.now).inputs in
         IfOk result (λ inputs. length inputs.items ≡ length wanted) }
-    ensures ends { IfErr result (Ends (C.plan command.now) (I.world io.old) (I.world io.new)) }
+    ensures ends { let plan = C.plan command.now in
+        IfErr result (λ ended. Ends plan (I.world io.old) (I.world io.new) ended.status) }
 {
     let Ok(wanted) = command.inputs(alloc) else {
         return Err(say_no_memory(io));
@@ -46,19 +50,21 @@ pub fn read_inputs<C: Command, I: Io>(
 
 /// The same, where its inputs are listed.
 #[tactic(auto, using(crate::proofs::AnswerLemmas::ends_unlisted))]
-fn read_wanted<C: Command, I: Io>(
+fn read_wanted<'n, C: Command<'n>, F: Copy, I: Io>(
     alloc: Global,
     command: &C,
-    wanted: &[Input<'_>],
+    wanted: &[Input<'n>],
     io: &mut I,
-) -> Result<Vec<Vec<u8>>, Status>
+) -> Result<Vec<Vec<u8>>, Ended<'n, F>>
     requires { map wanted_of wanted.now ≡ (C.plan command.now).inputs }
+    ensures caused { IfErr result HasItsStatus }
     ensures same_streams { I.streams io.new ≡ I.streams io.old }
     ensures read { let wanted = (C.plan command.now).inputs in IfOk result
         (λ inputs. HasRead wanted (I.world io.old) (I.world io.new) (all_bytes inputs.items)) }
     ensures count { let wanted = (C.plan command.now).inputs in
         IfOk result (λ inputs. length inputs.items ≡ length wanted) }
-    ensures ends { IfErr result (Ends (C.plan command.now) (I.world io.old) (I.world io.new)) }
+    ensures ends { let plan = C.plan command.now in
+        IfErr result (λ ended. Ends plan (I.world io.old) (I.world io.new) ended.status) }
 {
     // Only the contract speaks of it.
     let _command = command;
@@ -82,20 +88,22 @@ pub struct Keeping<'n, 'f> {
 /// spared, and then tried whether one can be kept there. Where it is, or that fails, it is said, and the run has ended before
 /// anything is checked or made.
 #[tactic(auto, using(crate::proofs::AnswerLemmas::ends_unlisted))]
-pub fn read_inputs_and_try<C: Command, I: Io>(
+pub fn read_inputs_and_try<'n, C: Command<'n>, F: Copy, I: Io>(
     alloc: Global,
     command: &C,
-    keeping: Keeping<'_, '_>,
+    keeping: Keeping<'n, '_>,
     io: &mut I,
-) -> Result<Vec<Vec<u8>>, Status>
+) -> Result<Vec<Vec<u8>>, Ended<'n, F>>
     requires under { (C.plan command.now).keeps_under ≡ Some keeping.name.now }
     requires spares { (C.plan command.now).spares ≡ fronts_in keeping }
+    ensures caused { IfErr result HasItsStatus }
     ensures same_streams { I.streams io.new ≡ I.streams io.old }
     ensures tried { let plan = C.plan command.now in let old = I.world io.old in IfOk result
         (λ inputs. HasReadAndTried plan keeping.entry.name.now old (I.world io.new) (all_bytes inputs.items)) }
     ensures count { let wanted = (C.plan command.now).inputs in
         IfOk result (λ inputs. length inputs.items ≡ length wanted) }
-    ensures ends { IfErr result (Ends (C.plan command.now) (I.world io.old) (I.world io.new)) }
+    ensures ends { let plan = C.plan command.now in
+        IfErr result (λ ended. Ends plan (I.world io.old) (I.world io.new) ended.status) }
 {
     let Ok(wanted) = command.inputs(alloc) else {
         return Err(say_no_memory(io));
@@ -126,48 +134,50 @@ fn is_spared<I: Io>(keeping: &Keeping<'_, '_>, inputs: &[Input<'_>], io: &I) -> 
 /// Says what a command answers, or that its check wants memory. So a run ends that has read the inputs on whose bytes that is
 /// the answer, of a command that keeps nothing.
 #[tactic(auto, using(crate::proofs::AnswerLemmas::ends_wanting))]
-pub fn conclude<C: Command, I: Io>(
+pub fn conclude<'n, C: Command<'n>, F: Copy, I: Io>(
     command: &C,
-    answer: &Result<CommandAnswer<'_>, AllocError>,
+    answered: &Answered<'_, AllocError, F>,
     io: &mut I,
-) -> Status
+) -> Ended<'n, F>
     requires { (C.plan command.now).keeps_under ≡ None }
+    ensures caused { HasItsStatus result }
     ensures same_streams { I.streams io.new ≡ I.streams io.old }
     ensures ends { let plan = C.plan command.now in
         (inputs : List Bytes) (old : World) → HasRead plan.inputs old (I.world io.old) inputs
-        → IsAnswerBy (plan.MayReply inputs) (plan.TakesMemory inputs) answer.now
-        → Ends plan old (I.world io.new) result }
+        → IsAnswerBy (plan.MayReply inputs) (plan.TakesMemory inputs) answered.now.answer
+        → Ends plan old (I.world io.new) result.status }
 {
-    match answer {
-        Ok(answer) => say_answer(answer, io),
+    match &answered.answer {
+        Ok(answer) => say_answer(answer, answered.fault, io),
         Err(_) => say_no_memory(io),
     }
 }
 
 /// As `conclude`, of a command that keeps a file under a name: what it made is kept after a yes, and then the answer is
 /// said. Where it can't be kept, that is said alone; so is that it was made wrong.
-pub fn keep_and_conclude<C: Command, I: Io>(
+pub fn keep_and_conclude<'n, C: Command<'n>, F: Copy, I: Io>(
     alloc: Global,
     command: &C,
-    answer: &Result<CommandAnswer<'_>, Unanswered>,
-    name: &str,
+    answered: &Answered<'_, Unanswered, F>,
+    name: &'n str,
     io: &mut I,
-) -> Status
+) -> Ended<'n, F>
     requires { (C.plan command.now).keeps_under ≡ Some name.now }
+    ensures caused { HasItsStatus result }
     ensures same_streams { I.streams io.new ≡ I.streams io.old }
     ensures ends { let plan = C.plan command.now in
         (inputs : List Bytes) (old : World)
         → HasReadAndTried plan name.now old (I.world io.old) inputs
-        → IsMadeBy (plan.MayReply inputs) (plan.TakesMemory inputs) (plan.Makes inputs) answer.now
-        → Ends plan old (I.world io.new) result }
+        → IsMadeBy (plan.MayReply inputs) (plan.TakesMemory inputs) (plan.Makes inputs) answered.now.answer
+        → Ends plan old (I.world io.new) result.status }
 {
-    match answer {
+    match &answered.answer {
         Ok(answer) => match keep_made(alloc, answer, name, io) {
-            Ok(()) => say_answer(answer, io),
+            Ok(()) => say_answer(answer, answered.fault, io),
             Err(why) => say_unkept(name, why, io),
         },
         Err(Unanswered::Memory) => say_no_memory(io),
-        Err(Unanswered::Wrong) => say_text(MADE_WRONG, Status::Fault, io),
+        Err(Unanswered::Wrong) => say_made_wrong(io),
     }
 }
 
@@ -190,47 +200,87 @@ fn keep_made<I: Io>(
     }
 }
 
-/// Says an answer.
-fn say_answer<I: Io>(answer: &CommandAnswer<'_>, io: &mut I) -> Status
+/// Says an answer, which for this fault is no yes, where that has one cause.
+fn say_answer<'n, F: Copy, I: Io>(
+    answer: &CommandAnswer<'_>,
+    fault: Option<F>,
+    io: &mut I,
+) -> Ended<'n, F>
+    ensures caused { HasItsStatus result }
     ensures same_streams { I.streams io.new ≡ I.streams io.old }
     ensures said { let status = status_of_reply answer.now.is_yes in
-        IsSaid (answer_text answer.now) status (I.world io.old) (I.world io.new) result }
+        IsSaid (answer_text answer.now) status (I.world io.old) (I.world io.new) result.status }
 {
-    let written = io.write_answer(answer);
-    status_after(
-        written,
-        if answer.is_yes {
-            Status::Yes
-        } else {
-            Status::Refused
-        },
-    )
+    match io.write_answer(answer) {
+        Ok(()) => Ended::answered(answer.is_yes, fault),
+        Err(_) => Ended::by(Some(Cause::Unwritten)),
+    }
 }
 
 /// Says which input was not read.
-fn say_unread<I: Io>(fault: &Unread<'_>, io: &mut I) -> Status
+fn say_unread<'n, F: Copy, I: Io>(fault: &Unread<'n>, io: &mut I) -> Ended<'n, F>
+    ensures caused { HasItsStatus result }
     ensures same_streams { I.streams io.new ≡ I.streams io.old }
     ensures said { let outcome = unread (wanted_of fault.now.input) fault.now.why in
-        IsSaid (text_of outcome) (status_of outcome) (I.world io.old) (I.world io.new) result }
+        IsSaid (text_of outcome) (status_of outcome) (I.world io.old) (I.world io.new) result.status }
 {
-    let name = name_of(&fault.input);
     match fault.why {
-        ReadFault::F1 => say_named("fault read ", name, io),
-        ReadFault::F2 => say_named("fault size ", name, io),
+        ReadFault::F1 => say_unreadable(&fault.input, io),
+        ReadFault::F2 => say_too_long(&fault.input, io),
         ReadFault::Memory => say_no_memory(io),
     }
 }
 
+/// Says that an input can't be read.
+fn say_unreadable<'n, F: Copy, I: Io>(input: &Input<'n>, io: &mut I) -> Ended<'n, F>
+    ensures caused { HasItsStatus result }
+    ensures same_streams { I.streams io.new ≡ I.streams io.old }
+    ensures said { let line = named_line (codes "fault read ") (shown (wanted_of input.now).name) in
+        IsSaid line Status.Fault (I.world io.old) (I.world io.new) result.status }
+{
+    say_named("fault read ", name_of(input), Cause::Unread(input.name), io)
+}
+
+/// Says that an input has more bytes than it may have.
+fn say_too_long<'n, F: Copy, I: Io>(input: &Input<'n>, io: &mut I) -> Ended<'n, F>
+    ensures caused { HasItsStatus result }
+    ensures same_streams { I.streams io.new ≡ I.streams io.old }
+    ensures said { let line = named_line (codes "fault size ") (shown (wanted_of input.now).name) in
+        IsSaid line Status.Fault (I.world io.old) (I.world io.new) result.status }
+{
+    say_named("fault size ", name_of(input), Cause::TooLong(input.name), io)
+}
+
 /// Says that nothing is kept under a name.
-fn say_unkept<I: Io>(name: &str, why: KeepFault, io: &mut I) -> Status
+fn say_unkept<'n, F: Copy, I: Io>(name: &'n str, why: KeepFault, io: &mut I) -> Ended<'n, F>
+    ensures caused { HasItsStatus result }
     ensures same_streams { I.streams io.new ≡ I.streams io.old }
     ensures said { let text = unkept_text name.now why in
-        IsSaid text (unkept_status why) (I.world io.old) (I.world io.new) result }
+        IsSaid text (unkept_status why) (I.world io.old) (I.world io.new) result.status }
 {
     match why {
-        KeepFault::F3 => say_named("fault write ", name, io),
+        KeepFault::F3 => say_unwritable(name, io),
         KeepFault::Memory => say_no_memory(io),
     }
+}
+
+/// Says that nothing can be kept under a name.
+fn say_unwritable<'n, F: Copy, I: Io>(name: &'n str, io: &mut I) -> Ended<'n, F>
+    ensures caused { HasItsStatus result }
+    ensures same_streams { I.streams io.new ≡ I.streams io.old }
+    ensures said { let line = named_line (codes "fault write ") (shown (Some name.now)) in
+        IsSaid line Status.Fault (I.world io.old) (I.world io.new) result.status }
+{
+    say_named("fault write ", name, Cause::Unkept(name), io)
+}
+
+/// Says that what was made is wrong.
+fn say_made_wrong<'n, F: Copy, I: Io>(io: &mut I) -> Ended<'n, F>
+    ensures caused { HasItsStatus result }
+    ensures same_streams { I.streams io.new ≡ I.streams io.old }
+    ensures said { IsSaid maker_line Status.Fault (I.world io.old) (I.world io.new) result.status }
+{
+    say_text(MADE_WRONG, Some(Cause::MadeWrong), io)
 }
 
 /// An input's name, and `-` for the reader.
@@ -244,36 +294,53 @@ fn name_of<'a>(input: &Input<'a>) -> &'a str
 }
 
 /// Says the line of a fault with a name.
-fn say_named<I: Io>(text: &str, name: &str, io: &mut I) -> Status
+fn say_named<'n, F: Copy, I: Io>(
+    text: &str,
+    name: &str,
+    why: Cause<'n, F>,
+    io: &mut I,
+) -> Ended<'n, F>
+    ensures caused { HasItsStatus result }
     ensures same_streams { I.streams io.new ≡ I.streams io.old }
     ensures said { let line = named_line text.now (map shown_byte name.now) in
-        IsSaid line Status.Fault (I.world io.old) (I.world io.new) result }
+        IsSaid line (status_by (Some why.entry)) (I.world io.old) (I.world io.new) result.status }
 {
-    status_after(io.write_named(text, name), Status::Fault)
+    end_after(io.write_named(text, name), Some(why))
 }
 
 /// Says that there isn't the memory.
-pub fn say_no_memory<I: Io>(io: &mut I) -> Status
+pub fn say_no_memory<'n, F: Copy, I: Io>(io: &mut I) -> Ended<'n, F>
+    ensures caused { HasItsStatus result }
     ensures same_streams { I.streams io.new ≡ I.streams io.old }
-    ensures said { IsSaid memory_line Status.NoMemory (I.world io.old) (I.world io.new) result }
+    ensures said { IsSaid memory_line Status.NoMemory (I.world io.old) (I.world io.new) result.status }
 {
-    say_text(NO_MEMORY, Status::NoMemory, io)
+    say_text(NO_MEMORY, Some(Cause::NoMemory), io)
 }
 
-/// Says a text, which ends a run with this status.
-pub fn say_text<I: Io>(text: &str, status: Status, io: &mut I) -> Status
+/// Says a text, which ends a run that has this cause to end without a yes, if any.
+pub fn say_text<'n, F: Copy, I: Io>(
+    text: &str,
+    why: Option<Cause<'n, F>>,
+    io: &mut I,
+) -> Ended<'n, F>
+    ensures caused { HasItsStatus result }
     ensures same_streams { I.streams io.new ≡ I.streams io.old }
-    ensures said { IsSaid text.now status (I.world io.old) (I.world io.new) result }
+    ensures said { IsSaid text.now (status_by why.entry) (I.world io.old) (I.world io.new) result.status }
 {
-    status_after(io.write_text(text), status)
+    end_after(io.write_text(text), why)
 }
 
-/// The status of a run, where this came of its last write.
-fn status_after(written: Result<(), WriteFault>, status: Status) -> Status
-    ensures { MatchResult written (λ _. result ≡ status) (λ _. result ≡ Status.Fault) }
+/// The end of a run that has this cause to end without a yes, if any, where this came of its last write.
+fn end_after<'n, F: Copy>(
+    written: Result<(), WriteFault>,
+    why: Option<Cause<'n, F>>,
+) -> Ended<'n, F>
+    ensures caused { HasItsStatus result }
+    ensures status { MatchResult written
+        (λ _. result.status ≡ status_by why.entry) (λ _. result.status ≡ Status.Fault) }
 {
     match written {
-        Ok(()) => status,
-        Err(_) => Status::Fault,
+        Ok(()) => Ended::by(why),
+        Err(_) => Ended::by(Some(Cause::Unwritten)),
     }
 }

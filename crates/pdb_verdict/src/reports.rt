@@ -14,7 +14,7 @@ use crate::lines::line_of;
 use crate::verdicts::{Fault, Verdict};
 use byte_io::sinks::Sink;
 use byte_io::streams::{WriteFault, put_text};
-use pdb_run::{CommandAnswer, Digested, FILES_BESIDE, say, say_digests};
+use pdb_run::{Answered, CommandAnswer, Digested, FILES_BESIDE, say, say_digests};
 use set_sum::MOST_TABLES;
 use std::alloc::AllocError;
 
@@ -67,17 +67,25 @@ pub fn told<'i>(digested: Digested<'i>, answer: &Result<Verdict, Fault>) -> Comm
     }
 }
 
-/// The same, but for want of memory.
+/// The same, but for want of memory, with the fault that it tells.
 pub fn told_or_memory<'i>(
     digested: Digested<'i>,
     answer: Result<Verdict, Fault>,
-) -> Result<CommandAnswer<'i>, AllocError>
+) -> Answered<'i, AllocError, Fault>
     ensures told { (files : List Bytes) → digest_lines digested.entry ≡ digests_of files
-        → IfOk result (λ told. IsReplyOf told (reply_on files answer) × (answer ≢ Err Memory)) }
-    ensures memory { OnErr result (answer ≡ Err Memory) }
+        → IfOk result.answer (λ told. IsReplyOf told (reply_on files answer) × (answer ≢ Err Memory)) }
+    ensures memory { OnErr result.answer (answer ≡ Err Memory) }
 {
-    let answer = settled(answer)?;
-    Ok(told(digested, &answer))
+    match settled(answer) {
+        Ok(answer) => Answered {
+            answer: Ok(told(digested, &answer)),
+            fault: answer.err(),
+        },
+        Err(memory) => Answered {
+            answer: Err(memory),
+            fault: None,
+        },
+    }
 }
 
 /// What is found, where memory isn't wanted.

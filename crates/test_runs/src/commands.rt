@@ -125,7 +125,7 @@ pub(crate) fn ended<H: Threads + Wait + Sync, I: Io>(
 ) -> Result<Status, AllocError> {
     let alloc = workers.alloc;
     let puzzle = Some("puzzle");
-    Ok(match command {
+    let ended = match command {
         Command::Replay => run_replay(alloc, Replay { puzzle }, io),
         Command::Table => run_table(&TABLE, workers, io),
         Command::Bound => run_log_check(&check_of(alloc, LogClaim::Bound, "board")?, workers, io),
@@ -136,7 +136,8 @@ pub(crate) fn ended<H: Threads + Wait + Sync, I: Io>(
         Command::MakeTable => run_make_table(&PATTERN, workers, io),
         Command::Prove => run_prove(&proving(alloc)?, workers, io),
         Command::Parts => run_parts(alloc, &parts(alloc)?, io, &mut Vec::new(alloc)),
-    })
+    };
+    Ok(ended.status)
 }
 
 /// A run's shelf, its reader and its output, as one.

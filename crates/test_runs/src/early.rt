@@ -1,10 +1,11 @@
-//! The line that the starts of files tell before a run begins, where they are large, missing or can't be read.
+//! The refusal that the starts of files tell before a run begins, where they are large, missing or can't be read.
 
 use crate::asked::{bound, search};
 use crate::bytes::put_often;
 use crate::same::{same, same_for};
-use pdb_early::{Look, line_ahead, takes_long};
+use pdb_early::{Look, fault_ahead, takes_long};
 use pdb_request::{Replay, Request};
+use pdb_verdict::line_of;
 use std::alloc::{AllocError, AllocGlobal, Global};
 use std::process::Abort;
 use std::sync::Wait;
@@ -29,11 +30,12 @@ const FILES: [Named<'_>; 5] = [
 /// The line that is told of them.
 const LINE: &str = "refused S2 at line 1";
 
-/// The line that the starts of these files tell of a bound over both tables, or an empty text.
+/// The line of the refusal that the starts of these files tell of a bound over both tables, or an empty text.
 fn told<H: AllocGlobal + Threads + Wait>(rt: &H, files: &SampleFiles) -> Result<String, Fail> {
     let alloc = rt.alloc();
     let asked = bound(alloc, &["t0", "t1"])?;
-    let line = line_ahead(&Look { rt, alloc, files }, &asked);
+    let fault = fault_ahead(&Look { rt, alloc, files }, &asked);
+    let line = fault.map(|fault| line_of(&Err(fault)));
     let text = line.as_ref().map_or("", |line| line.trim_end());
     Ok(String::from_str(alloc, text)?)
 }

@@ -1,13 +1,15 @@
-//! What is said why a run ended without a yes, and the output that keeps its last line.
+//! What is said why a run ended without a yes.
 
 use crate::asked::{bound, search};
-use crate::same::{same, same_bytes, same_for};
+use crate::same::{same, same_for};
 use byte_io::memory::MemShelf;
-use byte_io::streams::put_bytes;
-use pdb_reason::{Beginning, Heard, Reason};
-use std::io::Write;
-use std::process::Abort;
+use pdb_reason::{Beginning, Reason};
+use pdb_run::Cause;
+use pdb_verdict::Fault;
+use set_sum::SetFault;
 use std::test::Fail;
+use tab_file::HeadFault;
+use tab_rule::TableRefusal;
 
 #[test]
 fn a_reason_has_its_sentence(rt: HostRuntime) -> Result<(), Fail> {
@@ -16,23 +18,22 @@ fn a_reason_has_its_sentence(rt: HostRuntime) -> Result<(), Fail> {
         "what the program made is wrong, as its own check found, and is not kept: please report this";
     let cases = [
         (
-            "refused T2 of table 1",
+            Cause::Refused(Fault::TableOf(1, TableRefusal::Head(HeadFault::T2))),
             "t1: a table file begins with `PDBT` and a byte 1. It begins as a log does: is a word left out before it?",
         ),
-        ("fault maker", wrong),
-        ("bound 6", ""),
-        ("refused X9", ""),
-        ("", ""),
+        (Cause::MadeWrong, wrong),
+        (Cause::Unwritten, ""),
+        (Cause::Open, ""),
     ];
-    for (line, wanted) in cases {
-        let told = match Reason::of(&asked, line.as_bytes(), None) {
+    for (why, wanted) in cases {
+        let told = match Reason::of(&asked, why, None) {
             Some(reason) => format!(in rt.alloc(); "{}", reason.beginning(Beginning::OfLog))?,
             None => String::from_str(rt.alloc(), "pdb_cli: ")?,
         };
         let told = told.strip_prefix("pdb_cli: ");
-        same_for(&rt, &told, &Some(wanted), &line);
+        same_for(&rt, &told, &Some(wanted), &why);
     }
-    let reason = Reason::of(&asked, b"refused S1 at line 0", None);
+    let reason = Reason::of(&asked, Cause::Refused(Fault::Sets(SetFault::S1(0))), None);
     let name = reason.and_then(|reason| reason.name());
     same(&rt, &name, &Some("sets"));
     Ok(())
@@ -42,7 +43,7 @@ fn a_reason_has_its_sentence(rt: HostRuntime) -> Result<(), Fail> {
 fn a_file_that_is_spared_is_named(rt: HostRuntime) -> Result<(), Fail> {
     let asked = search(rt.alloc())?;
     let shelf = MemShelf::of(rt.alloc(), &[("out", b"PDBT\x01 ..")])?;
-    let reason = Reason::of(&asked, b"fault write out", None).ok_or("a reason")?;
+    let reason = Reason::of(&asked, Cause::Unkept("out"), None).ok_or("a reason")?;
     let told = format!(in rt.alloc(); "{}", reason.on_shelf(&asked, &shelf).ahead())?;
     let wanted =
         "pdb_cli: this run can't end in a yes: out: a table is there, or what can't be read, so no log takes its place: `--replace` allows that";
@@ -65,28 +66,4 @@ fn beginnings_of_files(rt: HostRuntime) {
     for (bytes, beginning) in cases {
         same(&rt, &Beginning::of(bytes), &beginning);
     }
-}
-
-/// Says these bytes, and ends the test where the last line that was heard then is another.
-fn expect_heard<R: Abort, W: Write>(
-    rt: &R,
-    heard: &mut Heard<'_, W>,
-    bytes: &[u8],
-    line: &[u8],
-) -> Result<(), Fail> {
-    put_bytes(heard, bytes)?;
-    same_bytes(rt, heard.line(), line);
-    Ok(())
-}
-
-#[test]
-fn what_is_heard_goes_on_and_its_last_line_is_kept(rt: HostRuntime) -> Result<(), Fail> {
-    let mut out = Vec::new(rt.alloc());
-    let mut heard = Heard::new(&mut out);
-    expect_heard(&rt, &mut heard, b"sha256 0\nrefused ", b"refused ")?;
-    expect_heard(&rt, &mut heard, b"T7\n", b"refused T7")?;
-    expect_heard(&rt, &mut heard, &[b'x'; 600], &[b'x'; 512])?;
-    expect_heard(&rt, &mut heard, b"\n\nb", b"b")?;
-    same(&rt, &out.len(), &(9 + 11 + 600 + 3));
-    Ok(())
 }

@@ -3,7 +3,7 @@
 use crate::runs::{Ended, owned};
 use crate::same::same;
 use byte_io::memory::MemShelf;
-use pdb_program::{ArgumentFault, ProgramCall, RunHost, start};
+use pdb_program::{ArgumentFault, ProgramCall, ReadArguments, RunHost, start};
 use std::alloc::Global;
 use std::sync::Wait;
 use std::test::Fail;
@@ -14,21 +14,29 @@ use work_run::OpenGate;
 fn started<H: Threads + Wait + Sync>(
     rt: &H,
     alloc: Global,
-    arguments: Result<Vec<String>, ArgumentFault>,
+    arguments: Result<&[String], ArgumentFault>,
 ) -> Result<Ended, Fail> {
     let mut shelf = MemShelf::of(alloc, &[("six", b"3 2 1 0 ; ULDRUL".as_slice())])?;
     let mut reader = b"1 0 2 3 ; L".as_slice();
     let mut out = b"before\n".to_vec(alloc)?;
     let mut err = Vec::new(alloc);
+    let read = match arguments {
+        Ok(all) => Ok(ReadArguments::of(alloc, all)),
+        Err(fault) => Err(fault),
+    };
     let call = ProgramCall {
         host: RunHost {
             rt,
             alloc,
             gate: &OpenGate,
         },
-        arguments,
+        arguments: match &read {
+            Ok(read) => Ok(read),
+            Err(fault) => Err(*fault),
+        },
     };
-    let status = start(call, &mut shelf, &mut reader, &mut out, &mut err);
+    let ended = start(call, &mut shelf, &mut reader, &mut out, &mut err);
+    let status = ended.status.code();
     Ok(Ended { status, out, err })
 }
 
@@ -41,7 +49,7 @@ fn expect_started<H: Threads + Wait + Sync>(
     status: u8,
 ) -> Result<(), Fail> {
     let arguments = owned(alloc, words)?;
-    started(rt, alloc, Ok(arguments))?.expect(lines, status)
+    started(rt, alloc, Ok(arguments.as_slice()))?.expect(lines, status)
 }
 
 #[test]

@@ -15,5 +15,5 @@ returns-clause-ends g c =
     let read = c.with_bytes-read in
     let same = ap₂ (λ (it : LogClaim) (fold : Bool). log_claim it (record (files_read read.result) { fold = fold })) read.ensures.claim read.ensures.fold in
     c.conclude.ensures.ends (all_bytes c.in-Ok.inputs.items) _ c.in-Ok.ensures.read
-    (check_answered (log_given check.claim (log_check_shown check)) (files_read read.result) _ c.answer_log_check-answer.result
-    read.ensures.inputs _ same c.answer_log_check-answer.ensures)
+    (check_answered (log_given check.claim (log_check_shown check)) (files_read read.result) _ c.answer_log_check-answered.result.answer
+    read.ensures.inputs _ same c.answer_log_check-answered.ensures)

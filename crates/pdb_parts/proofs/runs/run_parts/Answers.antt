@@ -11,7 +11,7 @@ returns-in-Err-clause-ends g c = read_ends (parts_shown c.args.asked.now) c.requ
 
 -- where the inputs are not read, the errors get nothing
 pub returns-in-Err-clause-told : goal.returns-in-Err-clause-told
-returns-in-Err-clause-told g c = read_tells (parts_shown c.args.asked.now) _ _ _ c.in-Err.status c.in-Err.ensures.ends
+returns-in-Err-clause-told g c = read_tells (parts_shown c.args.asked.now) _ _ _ c.in-Err.ended.status c.in-Err.ensures.ends
 
 -- where the text spells no board, the run ends with the refusal of the text
 pub returns-in-Err-read-clause-ends : goal.returns-in-Err-read-clause-ends
@@ -28,7 +28,7 @@ returns-in-Err-read-clause-told g c =
     let read = c.with_bytes-read in
     let is = c.in-Err-read.ensures.exact ∙ ap board_of_text c.as_slice.ensures.value in
     let refused = board_refused _ read.result.board.items (all_bytes read.result.answers.items) c.in-Err-read.fault read.ensures.inputs is in
-    read_tells (parts_shown c.args.asked.now) _ _ _ c.conclude.result
+    read_tells (parts_shown c.args.asked.now) _ _ _ c.conclude.result.status
     (c.conclude.ensures.ends (all_bytes c.in-Ok.inputs.items) _ c.in-Ok.ensures.read (_, refused, c.told-refused.ensures [] refl))
 
 -- the parts to be joined are an odd number, 65,535 at most
@@ -53,7 +53,7 @@ returns-in-Ok-join-clause-told g c =
     tells_joined (parts_shown c.args.asked.now) {mid = g.I.Io.world c.read_inputs.new.io} read.result.board.items
     (all_bytes read.result.answers.items) c.in-Ok-read.board c.in-Ok.ensures.read read.ensures.inputs is c.in-Ok-join.joined
     (rw (read.ensures.bound, read.ensures.count, c.as_slice-2.ensures.value) at c.in-Ok-join.ensures.counts) _ _
-    c.say_joined.result c.say_joined.ensures.told
+    c.say_joined.result.status c.say_joined.ensures.told
 
 -- where the text spells a board, the run ends with what comes of its parts
 pub returns-clause-ends : goal.returns-clause-ends

@@ -11,7 +11,7 @@ returns-clause-headline g c = λ before later input start lines parses had has l
     let out : c.out-1.given.0 ≡ c.answer.new.io.out.now = search rules in
     let said = c.answer.ensures in
     let same = ap (map string_bytes) c.as_slice.ensures.value in
-    headline_of _ _ _ _ _ _ _ same (runs_on _ _ _ _ _ c.code.result c.answer.result c.code.ensures said.ends said.refuses said.tells said.same)
+    headline_of _ _ _ _ _ _ _ same (runs_on _ _ _ _ _ c.code.result c.answer.result.status c.code.ensures said.ends said.refuses said.tells said.same)
     before later input start lines parses had
     (ap g.S.Shelf.held (sym shelf) ∙ has) left stood (ap (λ w. (g.W.Sink.output w).bytes) (sym out) ∙ wrote)
 
@@ -30,4 +30,4 @@ returns-clause-runs g c =
     let out : c.out-1.given.0 ≡ c.answer.new.io.out.now = search rules in
     let said = c.answer.ensures in
     rw (← c.as_slice.ensures.value, shelf, reader, out)
-    (runs_on _ _ _ _ _ c.code.result c.answer.result c.code.ensures said.ends said.refuses said.tells said.same)
+    (runs_on _ _ _ _ _ c.code.result c.answer.result.status c.code.ensures said.ends said.refuses said.tells said.same)

@@ -7,4 +7,4 @@ use Rattle.pdb_prove.proofs.runs.begin.Goals as goal
 pub returns-clause-ended : goal.returns-clause-ended
 returns-clause-ended g c = λ files old are digested ready cause.
     let head = rw (c.digests_alone.ensures ∙ digested, c.in-Err-write_answer.is) at c.write_answer.ensures.written in
-    head_cut (prove_shown c.args.command.now.0.now) files _ _ are (rw c.in-Ok.is at ready) head
+    rw c.by.ensures.status (head_cut (prove_shown c.args.command.now.0.now) files _ _ are (rw c.in-Ok.is at ready) head)

@@ -37,7 +37,7 @@ returns-in-Err-tell_over_tables-clause-ends g c = λ old are same.
     let ready = rw c.in-Ok.ensures.ready at (c.ready_with-ready.ensures.ok _ files c.requires.are made) in
     let head = rw (over.digested, c.as_slice-kept.ensures.value, c.given_up-given.ensures.all) at c.in-Ok.ensures.begun in
     let cut = rw c.budget_of-budget.ensures at c.in-Err-tell_over_tables.ensures.told in
-    lines_cut (prove_shown c.args.command.now.0.now) files _ _ are ready head cut
+    rw c.by.ensures.status (lines_cut (prove_shown c.args.command.now.0.now) files _ _ are ready head cut)
 
 -- where no words are wanted, the run ends with the answers to all claims
 pub returns-in_default-clause-ends : goal.returns-in_default-clause-ends
@@ -50,7 +50,7 @@ returns-in_default-clause-ends g c = λ old are same.
     let claims = c.in-Ok.ready.claims.items in
     let count = (rw c.in_default.is at c.in-Ok-tell_over_tables.ensures.wanted) ∙ sym (length-map claims claim_shown) in
     let all = rw c.budget_of-budget.ensures at (whole_told (map claim_shown claims) _ count c.in-Ok-tell_over_tables.ensures.told.all) in
-    all_answered (prove_shown c.args.command.now.0.now) files _ _ are ready head _ all c.status_of.ensures
+    all_answered (prove_shown c.args.command.now.0.now) files _ _ are ready head _ all c.answered.ensures.status
 
 -- the words that are wanted are those of the tables' files
 pub fill-worded-requires-after_bounds : goal.fill-worded-requires-after_bounds
@@ -116,7 +116,7 @@ returns-in-Ok-tell_over_words-clause-ends g c = λ old are same.
     let count = length-map claims claim_shown in
     let sum : told + (length claims - told) ≡ length shown = omega (arith, count, first.few) in
     let all = rw c.budget_of-budget.ensures at (whole_told shown _ sum (next_told shown told (length claims - told) first.all next)) in
-    all_answered (prove_shown c.args.command.now.0.now) files _ _ are ready head _ all c.status_of-in-Ok-tell_over_words.ensures
+    all_answered (prove_shown c.args.command.now.0.now) files _ _ are ready head _ all c.answered-in-Ok-tell_over_words.ensures.status
 
 -- where the lines over words aren't all written, the run is cut short
 pub returns-clause-ends : goal.returns-clause-ends
@@ -134,4 +134,4 @@ returns-clause-ends g c = λ old are same.
     let next = rw (outline, c.as_slice.ensures.value, c.without_bundle-claims.ensures.claims, rest_shown claims told)
     at c.in-Err-tell_over_words.ensures.told in
     let cut = rw c.budget_of-budget.ensures at (next_cut shown told (length claims - told) c.in-Ok-tell_over_tables.ensures.told.all next) in
-    lines_cut (prove_shown c.args.command.now.0.now) files _ _ are ready head cut
+    rw c.by-in-Err-tell_over_words.ensures.status (lines_cut (prove_shown c.args.command.now.0.now) files _ _ are ready head cut)

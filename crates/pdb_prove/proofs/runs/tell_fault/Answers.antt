@@ -9,5 +9,5 @@ pub returns-clause-ends : goal.returns-clause-ends
 returns-clause-ends g c = λ files old are digested is.
     let told = c.told_or_memory.ensures in
     inl (c.conclude.ensures.ends (in_order files) old are
-    (fault_told (prove_shown c.args.command.now.0.now) files c.args.fault c.told_or_memory.result is
+    (fault_told (prove_shown c.args.command.now.0.now) files c.args.fault c.told_or_memory.result.answer is
     (told.told (digested_files files) digested) told.memory))

@@ -41,4 +41,4 @@ returns-in-Err-Memory-clause-ends g c = λ inputs old are by.
 pub returns-in-Err-Wrong-clause-ends : goal.returns-in-Err-Wrong-clause-ends
 returns-in-Err-Wrong-clause-ends g c = λ inputs old are by.
     let why : c.in-Err-Wrong.field-0 ≡ Wrong = search (rules, c.in-Err-Wrong.field-0-is) in
-    trial_wrong {plan = g.C.Command.plan c.args.command.now} c.requires are (rw why at (rw c.in-Err-Wrong.is at by)) c.say_text.ensures.said
+    trial_wrong {plan = g.C.Command.plan c.args.command.now} c.requires are (rw why at (rw c.in-Err-Wrong.is at by)) c.say_made_wrong.ensures.said
