@@ -470,12 +470,17 @@ invalid value '0x' for '<MASK>': hexadecimal digits write a number up to 0xfffff
 invalid value '0x+1e' for '<MASK>': hexadecimal digits write a number up to 0xffffffff, as 0x1e|make-table 2 0x+1e o
 invalid value '0x1g' for '<MASK>': hexadecimal digits write a number up to 0xffffffff, as 0x1e|make-table 2 0x1g o
 invalid value '0x100000000' for '<MASK>': hexadecimal digits write a number up to 0xffffffff, as 0x1e|make-table 2 0x100000000 o
-invalid value 'tiles:' for '<MASK>': tiles are numbers from 0 to 31, none twice, with commas between them, as tiles:1,2,3,4|make-table 2 tiles: o
-invalid value 'tiles:1,,2' for '<MASK>': tiles are numbers from 0 to 31, none twice, with commas between them, as tiles:1,2,3,4|make-table 2 tiles:1,,2 o
-invalid value 'tiles:3,1,3' for '<MASK>': tiles are numbers from 0 to 31, none twice, with commas between them, as tiles:1,2,3,4|make-table 2 tiles:3,1,3 o
-invalid value 'tiles:01' for '<MASK>': tiles are numbers from 0 to 31, none twice, with commas between them, as tiles:1,2,3,4|make-table 2 tiles:01 o
-invalid value 'tiles:32' for '<MASK>': tiles are numbers from 0 to 31, none twice, with commas between them, as tiles:1,2,3,4|make-table 2 tiles:32 o
-invalid value 'tiles:??' for '<MASK>': tiles are numbers from 0 to 31, none twice, with commas between them, as tiles:1,2,3,4|make-table 2 tiles:ü o
+invalid value 'tiles:' for '<MASK>': tiles are numbers from 0 to 31, or ranges of them, none twice, with commas between, as tiles:1,2,5-8|make-table 2 tiles: o
+invalid value 'tiles:1,,2' for '<MASK>': tiles are numbers from 0 to 31, or ranges of them, none twice, with commas between, as tiles:1,2,5-8|make-table 2 tiles:1,,2 o
+invalid value 'tiles:3,1,3' for '<MASK>': tiles are numbers from 0 to 31, or ranges of them, none twice, with commas between, as tiles:1,2,5-8|make-table 2 tiles:3,1,3 o
+invalid value 'tiles:01' for '<MASK>': tiles are numbers from 0 to 31, or ranges of them, none twice, with commas between, as tiles:1,2,5-8|make-table 2 tiles:01 o
+invalid value 'tiles:32' for '<MASK>': tiles are numbers from 0 to 31, or ranges of them, none twice, with commas between, as tiles:1,2,5-8|make-table 2 tiles:32 o
+invalid value 'tiles:1-' for '<MASK>': tiles are numbers from 0 to 31, or ranges of them, none twice, with commas between, as tiles:1,2,5-8|make-table 2 tiles:1- o
+invalid value 'tiles:3-3' for '<MASK>': tiles are numbers from 0 to 31, or ranges of them, none twice, with commas between, as tiles:1,2,5-8|make-table 2 tiles:3-3 o
+invalid value 'tiles:4-1' for '<MASK>': tiles are numbers from 0 to 31, or ranges of them, none twice, with commas between, as tiles:1,2,5-8|make-table 2 tiles:4-1 o
+invalid value 'tiles:1-3,2' for '<MASK>': tiles are numbers from 0 to 31, or ranges of them, none twice, with commas between, as tiles:1,2,5-8|make-table 2 tiles:1-3,2 o
+invalid value 'tiles:30-32' for '<MASK>': tiles are numbers from 0 to 31, or ranges of them, none twice, with commas between, as tiles:1,2,5-8|make-table 2 tiles:30-32 o
+invalid value 'tiles:??' for '<MASK>': tiles are numbers from 0 to 31, or ranges of them, none twice, with commas between, as tiles:1,2,5-8|make-table 2 tiles:ü o
 the following required arguments were not provided:\n  <TABLES>...|solve b s o
 invalid value '0' for '--budget <N>': 0 is not in 1..=1000000000000|solve --budget 0 b s o t
 invalid value '1000000000001' for '--budget <N>': 1000000000001 is not in 1..=1000000000000|solve b s o t --budget 1000000000001

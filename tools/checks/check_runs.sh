@@ -1037,6 +1037,8 @@ check "Korf's hundred boards are all answered with a yes" [ "$status" = 0 ]
 rm korf_*
 "$root/tools/claims/make_results.py" >"$work/output" 2>"$work/errors"
 check 'docs/RESULTS.md says what docs/results has' cmp -s "$work/output" "$root/docs/RESULTS.md"
+"$root/tools/claims/show_solution.py" --svg "$work/output" <<<'0 3 2 4 1 8 7 6 5 ; RDDRUULLDRDLUURRDLLU' 2>"$work/errors"
+check 'the picture of README.md is what tools/claims/show_solution.py draws' cmp -s "$work/output" "$root/docs/solution.svg"
 
 #
 # The tour.
@@ -1081,7 +1083,7 @@ made() {
 
 made F123 'exact side 2 mask 14 entries 24 unreachable 12 deepest 6' 2 14
 made F12 'exact side 2 mask 6 entries 24 unreachable 8 deepest 4' 2 6
-for mask in 0xe 0x0E tiles:1,2,3 tiles:3,1,2; do
+for mask in 0xe 0x0E tiles:1,2,3 tiles:3,1,2 tiles:1-3 tiles:3,1-2; do
     made F123 'exact side 2 mask 14 entries 24 unreachable 12 deepest 6' 2 "$mask"
 done
 for mask in 16777216 0x1000000 tiles:24; do
@@ -1092,7 +1094,7 @@ for workers in 1 2 7; do
 done
 rm -f made
 names_before=$(names_of)
-for numbers in '2 1' '6 2' '2 0' '2 15' '5 254' '0 0' '255 4294967295' '2 0x0' '5 0xffffffff' '2 tiles:0,1' '2 tiles:4' '5 tiles:31'; do
+for numbers in '2 1' '6 2' '2 0' '2 15' '5 254' '0 0' '255 4294967295' '2 0x0' '5 0xffffffff' '2 tiles:0,1' '2 tiles:0-3' '2 tiles:4' '5 tiles:31'; do
     # shellcheck disable=SC2086
     expect "make-table $numbers" 1 'refused K4' : make-table $numbers made
     check "make-table $numbers keeps nothing" only_new

@@ -33,9 +33,11 @@ KORF = """\
 Korf (1985) published them with his search by iterative deepening, the first that found their shortest solutions. They have {least} to {most} moves. The files: [boards and moves](results/korf_1985.claims), and [answers](results/korf_1985.answers). This makes the tables and compares all hundred answers, in less than 20 seconds:
 
 ```
-for mask in 9826 55680 28; do ./pdb_cli make-table 4 $mask t$mask; done
+./pdb_cli make-table 4 tiles:1,5,6,9,10,13 left
+./pdb_cli make-table 4 tiles:7,8,11,12,14,15 right
+./pdb_cli make-table 4 tiles:2,3,4 top
 printf 'set 0 1 2\\nset 0t 1t 2t\\n' >sets
-./pdb_cli prove docs/results/korf_1985.claims sets t9826 t55680 t28 --workers 4 | diff - docs/results/korf_1985.answers
+./pdb_cli prove docs/results/korf_1985.claims sets left right top --workers 4 | diff - docs/results/korf_1985.answers
 ```
 
 The number of boards is that of the last search, which finds no shorter solution.
@@ -46,9 +48,12 @@ KORF_AND_FELNER = """\
 These are {count} of the fifty random boards of Korf and Felner (2002): those of which `prove` found a shortest solution within 1.5 billion boards. Their solutions have {least} to {most} moves. The files: [boards and moves](results/korf_felner_2002.claims), and [answers](results/korf_felner_2002.answers). The tables have 3.6 GB, and the run takes 4.9 GB:
 
 ```
-for mask in 4326 25368 3247104 30277632; do ./pdb_cli make-table 5 $mask t$mask --workers 4; done
+./pdb_cli make-table 5 tiles:1,2,5,6,7,12 t0 --workers 4
+./pdb_cli make-table 5 tiles:3,4,8,9,13,14 t1 --workers 4
+./pdb_cli make-table 5 tiles:10,11,15,16,20,21 t2 --workers 4
+./pdb_cli make-table 5 tiles:17,18,19,22,23,24 t3 --workers 4
 printf 'set 0 1 2 3\\nset 0t 1t 2t 3t\\n' >sets
-./pdb_cli prove docs/results/korf_felner_2002.claims sets t4326 t25368 t3247104 t30277632 --workers 4 |
+./pdb_cli prove docs/results/korf_felner_2002.claims sets t0 t1 t2 t3 --workers 4 |
     diff - docs/results/korf_felner_2002.answers
 ```
 

@@ -1,5 +1,5 @@
 -- What is read of a text that writes a mask.
-use Rattle.std.proofs.Common.{◌≡◌, ◌<◌, ◌≤◌, ◌≢◌, ◌+◌, ◌-◌, ◌^◌, ◌&&◌, Bool, not, ◌*◌, ◌/◌, ◌%◌, ◌⊎◌, ◌∙◌, arith, inl, inr, refl, ap, true, false, ℕ}
+use Rattle.std.proofs.Common.{◌≡◌, ◌<◌, ◌≤◌, ◌≢◌, ◌+◌, ◌-◌, ◌^◌, ◌&&◌, Bool, not, ◌*◌, ◌/◌, ◌%◌, ◌⊎◌, ◌∙◌, arith, inl, inr, refl, sym, ap, true, false, ℕ}
 use Rattle.std.proofs.Common.{List, [], ◌∷◌, ◌++◌, decimal, length}
 use Rattle.std.specs.List.{after_first, before_first, list_all, list_any, position_or_len, slice_split}
 use Rattle.std.specs.Borrow.{Bor}
@@ -18,9 +18,9 @@ use Rattle.std.proofs.lemmas.Nat.Bits.{and_pow, bit_at-lt, bit_at-pow_other, bit
 use Rattle.std.proofs.lemmas.Slice.Eq.{bytes_eq-Decides}
 use Rattle.std.proofs.lemmas.Str.Pattern.{starts_text}
 use Rattle.clap.specs.Walk.{Text}
-use Rattle.pdb_words.specs.Masks.{are_apart, behind, hexadecimal_mask, mask_of_tiles, most_mask, tile_written, tiles_mask, tiles_written}
+use Rattle.pdb_words.specs.Masks.{are_apart, behind, hexadecimal_mask, mask_of_tiles, most_mask, tile_written, tiles_mask, tiles_named, tiles_written}
 use Rattle.pdb_words.specs.Numbers.{number_written}
-use Rattle.pdb_words.specs.TileBits.{with_tile, with_tiles}
+use Rattle.pdb_words.specs.TileBits.{with_each, with_tile, with_tiles}
 use Rattle.pdb_words.proofs.NumberLemmas.{digits_tested}
 
 -- what `strip_prefix` leaves
@@ -107,14 +107,14 @@ one_part (byte ∷ text) none = grind (arith, nat_tests, one_part text)
 
 -- the only part, and the first of more
 pub last_tile : (mask : ℕ) (text : Text) → position_or_len is_comma text ≡ length text
-    → with_tiles mask (slice_split is_comma text) ≡ option_and_then (with_tile mask) (tile_written text)
+    → with_tiles mask (slice_split is_comma text) ≡ option_and_then (with_each mask) (tiles_named text)
 last_tile mask text none = rw (one_part text none) (grind arith)
 
 -- the mask of tiles between commas has the first one, and then those of the rest
 pub first_tile : (mask : ℕ) (text first rest : Text) → first ≡ before_first is_comma text → rest ≡ after_first is_comma text
     → position_or_len is_comma text < length text
     → with_tiles mask (slice_split is_comma text) ≡ option_and_then (λ more. with_tiles more (slice_split is_comma rest))
-    (option_and_then (with_tile mask) (tile_written first))
+    (option_and_then (with_each mask) (tiles_named first))
 first_tile mask text first rest is_first is_rest some = rw (slice_split_first is_comma text 0 some, is_first, is_rest) refl
 
 -- ---- the bits of tiles, and their sum
@@ -150,28 +150,51 @@ joined_more mask tile tiles out = rw (all_out_of_more mask tile tiles, out, one_
 joined_has : (mask tile : ℕ) (tiles : List ℕ) → (bit_at mask tile == 1) ≡ true → joined mask (tile ∷ tiles) ≡ None
 joined_has mask tile tiles has = rw has refl
 
--- what comes of a tile, and of those behind it
-tile_joined : (mask tile : ℕ) (tiles : Option (List ℕ)) (more : Option ℕ) → more ≡ option_and_then (joined (bit_or mask (2 ^ tile))) tiles
-    → option_and_then (λ m. more) (with_tile mask tile) ≡ option_and_then (joined mask) (option_map (λ ts. tile ∷ ts) tiles)
-tile_joined mask tile None more is = grind arith
-tile_joined mask tile (Some tiles) more is = elim (cases_Bool (bit_at mask tile == 1)) [
+-- the mask with some tiles, and then with others, has all of them
+each_more : (mask : ℕ) (tiles others : List ℕ) → with_each mask (tiles ++ others) ≡ option_and_then (λ more. with_each more others) (with_each mask tiles)
+each_more mask [] others = refl
+each_more mask (tile ∷ tiles) others = next (with_tile mask tile) (λ more. each_more more tiles others)
+  where
+    next : (more : Option ℕ) → ((m : ℕ) → with_each m (tiles ++ others) ≡ option_and_then (λ n. with_each n others) (with_each m tiles))
+        → option_and_then (λ m. with_each m (tiles ++ others)) more
+        ≡ option_and_then (λ n. with_each n others) (option_and_then (λ m. with_each m tiles) more)
+    next None later = refl
+    next (Some m) later = later m
+
+-- the mask with tiles, one after the other, is their joint mask
+each_joined : (mask : ℕ) (tiles : List ℕ) → with_each mask tiles ≡ joined mask tiles
+each_joined mask [] = grind arith
+each_joined mask (tile ∷ tiles) = elim (cases_Bool (bit_at mask tile == 1)) [
   | inl has ↦ grind (arith, joined_has mask tile tiles has)
-  | inr out ↦ grind (arith, joined_more mask tile tiles out)
+  | inr out ↦ grind (arith, each_joined (bit_or mask (2 ^ tile)) tiles, joined_more mask tile tiles out)
 ]
+
+-- what is done with a mask, where there is one, may be said in other words
+said_of : (done said : ℕ → Option ℕ) → ((m : ℕ) → done m ≡ said m) → (mask : Option ℕ) → option_and_then done mask ≡ option_and_then said mask
+said_of done said same None = refl
+said_of done said same (Some m) = same m
 
 tiles_joined : (mask : ℕ) (texts : List Text) → with_tiles mask texts ≡ option_and_then (joined mask) (tiles_written texts)
 tiles_joined mask [] = grind arith
-tiles_joined mask (text ∷ texts) = next (λ m. tiles_joined m texts) (tile_written text)
+tiles_joined mask (text ∷ texts) =
+    said_of (λ m. with_tiles m texts) (λ m. option_and_then (joined m) (tiles_written texts)) (λ m. tiles_joined m texts)
+    (option_and_then (with_each mask) (tiles_named text)) ∙ next (tiles_named text) (tiles_written texts)
   where
-    only : (tile : ℕ) → option_and_then (λ more. with_tiles more texts) (with_tile mask tile) ≡ option_and_then
-        (λ m. with_tiles (bit_or mask (2 ^ tile)) texts) (with_tile mask tile)
-    only tile = grind arith
+    none : (more : Option ℕ) → option_and_then (λ m. option_and_then (joined m) None) more ≡ None
+    none None = refl
+    none (Some m) = refl
 
-    next : ((m : ℕ) → with_tiles m texts ≡ option_and_then (joined m) (tiles_written texts)) → (tile : Option ℕ)
-        → option_and_then (λ more. with_tiles more texts) (option_and_then (with_tile mask) tile)
-        ≡ option_and_then (joined mask) (option_and_then (λ t. option_map (λ ts. t ∷ ts) (tiles_written texts)) tile)
-    next later None = refl
-    next later (Some tile) = only tile ∙ tile_joined mask tile (tiles_written texts) _ (later (bit_or mask (2 ^ tile)))
+    all : (tiles others : List ℕ) → option_and_then (λ m. joined m others) (with_each mask tiles) ≡ joined mask (tiles ++ others)
+    all tiles others =
+        said_of (λ m. joined m others) (λ m. with_each m others) (λ m. sym (each_joined m others)) (with_each mask tiles)
+        ∙ sym (each_more mask tiles others)
+        ∙ each_joined mask (tiles ++ others)
+
+    next : (tiles others : Option (List ℕ)) → option_and_then (λ m. option_and_then (joined m) others) (option_and_then (with_each mask) tiles)
+        ≡ option_and_then (joined mask) (option_and_then (λ ts. option_map (λ os. ts ++ os) others) tiles)
+    next None others = refl
+    next (Some tiles) None = none (with_each mask tiles)
+    next (Some tiles) (Some others) = all tiles others
 
 -- no tile is in the mask 0
 none_in_zero : (tiles : List ℕ) → are_out 0 tiles ≡ true

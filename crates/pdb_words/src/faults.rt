@@ -75,7 +75,7 @@ pub(crate) fn wrong_mask_text(alloc: Global, word: &str) -> Result<String, Alloc
         return format!(in alloc; "{before}{word} is not in 0..=4294967295{behind}");
     }
     let wanted = if word.starts_with("tiles:") {
-        "tiles are numbers from 0 to 31, none twice, with commas between them, as tiles:1,2,3,4"
+        "tiles are numbers from 0 to 31, or ranges of them, none twice, with commas between, as tiles:1,2,5-8"
     } else if word.starts_with("0x") {
         "hexadecimal digits write a number up to 0xffffffff, as 0x1e"
     } else {

@@ -31,7 +31,7 @@ const SIDE: Row<'static> = Row {
 const MASK: Row<'static> = Row {
     id: "MASK",
     kind: Kind::Word,
-    help: "The tiles of the pattern: tiles:1,2,3,4, or the sum of 2^t over its tiles t, as 30 or 0x1e",
+    help: "The tiles of the pattern: tiles:1,2,3,4 or tiles:1-4, or the sum of 2^t over its tiles t, as 30 or 0x1e",
 };
 
 /// The command: its help, and what it takes, for `clap`.

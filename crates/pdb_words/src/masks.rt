@@ -1,13 +1,13 @@
 //! Masks, as words write them.
 
-ghost use Rattle.std.specs.Prelude.{◌≡◌, ◌==◌, ◌<◌, ◌∷◌, [], IfSome, option_and_then, option_map};
+ghost use Rattle.std.specs.Prelude.{◌≡◌, ◌==◌, ◌+◌, ◌-◌, ◌<◌, ◌≤◌, ◌∷◌, [], IfSome, option_and_then, option_map};
 ghost use Rattle.std.specs.List.{slice_split};
-ghost use Rattle.pdb_words.specs.Masks.{behind, hexadecimal_mask, mask_written, most_mask, tile_written, tiles_mask};
+ghost use Rattle.pdb_words.specs.Masks.{behind, hexadecimal_mask, mask_written, most_mask, tile_written, tiles_between, tiles_from, tiles_mask, tiles_named};
 ghost use Rattle.pdb_words.specs.Numbers.{number_written};
-ghost use Rattle.pdb_words.specs.TileBits.{with_tile, with_tiles};
+ghost use Rattle.pdb_words.specs.TileBits.{with_each, with_tile, with_tiles};
 
-/// The mask that a word writes: a number in decimal, `0x` and hexadecimal digits, or `tiles:` and the numbers of tiles
-/// with commas between them, in any order, none twice.
+/// The mask that a word writes: a number in decimal, `0x` and hexadecimal digits, or `tiles:` and the numbers of tiles, or
+/// ranges of them as `1-4`, with commas between them, in any order, none twice.
 pub(crate) fn mask_written(word: &str) -> Option<u32>
     ensures { result ≡ mask_written word.now }
 {
@@ -44,21 +44,50 @@ fn hexadecimal_mask(digits: &str) -> Option<u32>
     u32::from_str_radix(digits, 16).ok()
 }
 
-/// The mask with the tiles whose numbers stand between commas, none of which it has.
+/// The mask with the tiles that a text names between commas, none of which it has.
 fn with_tiles(mask: u32, text: &str) -> Option<u32>
     ensures { result ≡ with_tiles mask (slice_split (λ byte. byte == 44) text.now) }
 {
     match text.split_once(',') {
-        None => with_tile_written(mask, text),
-        Some((first, rest)) => with_tiles(with_tile_written(mask, first)?, rest),
+        None => with_named(mask, text),
+        Some((first, rest)) => with_tiles(with_named(mask, first)?, rest),
     }
 }
 
-/// The mask with the tile whose number this is, which it doesn't have.
-fn with_tile_written(mask: u32, text: &str) -> Option<u32>
-    ensures { result ≡ option_and_then (with_tile mask) (tile_written text.now) }
+/// The mask with the tiles that a text names, none of which it has: one, or all from one to a greater one.
+fn with_named(mask: u32, text: &str) -> Option<u32>
+    ensures { result ≡ option_and_then (with_each mask) (tiles_named text.now) }
 {
-    with_tile(mask, tile_written(text)?)
+    match text.split_once('-') {
+        None => with_tile(mask, tile_written(text)?),
+        Some((first, last)) => with_range(mask, tile_written(first)?, tile_written(last)?),
+    }
+}
+
+/// The mask with the tiles from one to a greater one, none of which it has.
+fn with_range(mask: u32, first: u32, last: u32) -> Option<u32>
+    requires { last < 32 }
+    ensures { result ≡ option_and_then (with_each mask) (tiles_between first last) }
+{
+    if first < last {
+        with_all(mask, first, last)
+    } else {
+        None
+    }
+}
+
+/// The mask with the tiles from one to another, none of which it has.
+fn with_all(mask: u32, first: u32, last: u32) -> Option<u32>
+    requires up { first ≤ last }
+    requires within { last < 32 }
+    ensures { result ≡ with_each mask (tiles_from first (last - first + 1)) }
+{
+    let more = with_tile(mask, first)?;
+    if first == last {
+        Some(more)
+    } else {
+        with_all(more, first + 1, last)
+    }
 }
 
 /// The mask with one tile more, which it doesn't have.
