@@ -266,12 +266,13 @@ def texts_of_many_lines(program, checks):
 
 
 def boards_expanded(search, claim):
-    """How many boards a search for a claim expands, with its threshold, or with all thresholds up to a solution."""
+    """How many boards the searches for a claim expand: for a bound, those of thresholds that are lower by four and more, and its own;
+    else those of all thresholds up to a solution."""
     board, search.expanded, search.exceeds = claim.board, 0, float("inf")
+    parity = sum(divmod(board.index(0), side_of(board))) % 2
     if claim.bound is not None:
-        thresholds = [claim.bound - 1]
+        thresholds = [*range(parity, claim.bound - 4, 2), claim.bound - 1]
     else:
-        parity = sum(divmod(board.index(0), side_of(board))) % 2
         thresholds = range(parity, least_moves(board) + 1, 2)
     for threshold in thresholds:
         if board != goal(side_of(board)) and search.says(board) <= threshold:

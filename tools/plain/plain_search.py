@@ -6,9 +6,9 @@ read off docs/FORMATS.md. Nothing of the program is used.
 
 The files are those of `solve`. What is written is the number of moves of a shortest solution, and the number of boards whose
 moves were generated until it was found: the least budget that suffices. With --each a line as `below 21: 769` is written for
-each search in place of that: a search for a solution of fewer than 21 moves expanded so many. With --below there is one, for
-this bound. With --strings moves that complete a string of FILE are left out, and not those alone that take a move back. A
-board that has no solution is searched for ever.
+each search in place of that: a search for a solution of fewer than 21 moves expanded so many. With --below the
+last of them is for this bound, behind those for lower ones, up to four below it. With --strings moves that complete a string of
+FILE are left out, and not those alone that take a move back. A board that has no solution is searched for ever.
 """
 
 import argparse
@@ -66,6 +66,17 @@ class Search:
             yield threshold, self.expanded - before
             threshold += self.exceeds
 
+    def searches_below(self, board, bound):
+        """The searches that show that no solution has fewer moves than a bound, or find one: as `searches`, but by what each is below."""
+        threshold = self.says(board) + 1
+        lower = range(threshold, bound - 3, 2)
+        for below in [*lower, bound]:
+            before, self.exceeds = self.expanded, float("inf")
+            is_solved = self.solves(board, below - 1)
+            yield below, self.expanded - before
+            if is_solved:
+                return
+
 
 def main():
     parser = argparse.ArgumentParser(description=__doc__.partition("\n\n")[0])
@@ -79,9 +90,8 @@ def main():
     strings = words.strings.read_text().split() if words.strings else REVERSALS
     search, board = Search(read_sets(sets, read_tables(files, words.fold)), strings), read_board(board)
     if words.below:
-        search.exceeds = float("inf")
-        search.solves(board, words.below - 1)
-        print(f"below {words.below}: {search.expanded}")
+        for below, expanded in search.searches_below(board, words.below):
+            print(f"below {below}: {expanded}")
         return
     for threshold, expanded in search.searches(board):
         if words.each:

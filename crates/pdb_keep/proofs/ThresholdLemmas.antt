@@ -1,5 +1,5 @@
 -- Searches below one threshold after the other, within a budget.
-use Rattle.std.proofs.Common.{◌≡◌, ℕ, suc, ◌+◌, ◌-◌, ◌*◌, ◌^◌, ◌<◌, ◌≤◌, List, arith, refl, subst, sym}
+use Rattle.std.proofs.Common.{◌≡◌, ℕ, suc, ◌+◌, ◌-◌, ◌*◌, ◌^◌, ◌<◌, ◌≤◌, List, None, arith, refl, subst, sym}
 use Rattle.puz_board.specs.Parity.{blank_parity}
 use Rattle.puz_search.specs.Answers.{IsSpentAfter}
 use Rattle.puz_search.specs.Guides.{ShownGuide}
@@ -11,7 +11,7 @@ pub record IsWithin (g : ShownGuide) (b : List ℕ) (budget left bound : ℕ) : 
   pub thresholds : ℕ
   pub reached : bound ≡ blank_parity b + 2 * thresholds
   pub spent : ℕ
-  pub fails : FailsInTurn g b thresholds spent
+  pub fails : FailsInTurn g None b thresholds spent
   pub sum : spent + left ≡ budget
 
 module _ (g : ShownGuide) (b : List ℕ) (budget : ℕ) where

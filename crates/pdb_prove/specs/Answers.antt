@@ -1,5 +1,5 @@
 -- Which answer to a claim is right, by a search that a guide leads, and for a budget of boards.
-use Rattle.std.specs.Prelude.{◌≡◌, ℕ, ◌-◌, ◌<◌, ◌≤◌, ◌⊎◌, min, Bool, true, false, List, [], take, length, Err}
+use Rattle.std.specs.Prelude.{◌≡◌, ℕ, ◌-◌, ◌<◌, ◌≤◌, ◌⊎◌, min, Bool, true, false, List, [], take, length, Err, None, Some}
 use Rattle.std.specs.List.{list_all}
 use Rattle.puz_board.specs.MovesTexts.{Solves, replay_of}
 use Rattle.set_sum.specs.Bounds.{IsBounded}
@@ -10,7 +10,7 @@ use Rattle.claim_text.specs.Lines as line
 use Rattle.claim_text.specs.Lines.{Told}
 use Rattle.puz_make.specs.Solvable.{HasTheBlanksParity}
 use Rattle.move_strings.specs.BoundParts.{ShownPart}
-use Rattle.puz_search.specs.Answers.{IsAnswer, IsAnswerOfPart, IsDeepened}
+use Rattle.puz_search.specs.Answers.{IsAnswer, IsAnswerInTurn, IsAnswerOfPart, IsDeepened}
 use Rattle.puz_search.specs.Guides.{IsGuide, LeavesOutReversals, ShownGuide}
 use Rattle.puz_search.specs.declared.answers.SearchAnswer.TheVariants as search
 use Rattle.puz_search.specs.declared.deepening.Deepened.TheVariants as deepened
@@ -44,7 +44,7 @@ module _ (guide : ShownGuide) (budget : ℕ) where
   IsOptimumFor b moves (Shorter letters) =
       (n : ℕ) × Solves b moves n × IsAnswer guide b (min n 255) budget (search.Solved letters)
   IsOptimumFor b moves (Refused (Moves refused)) = replay_of b moves ≡ Err refused
-  IsOptimumFor b moves (Refused K1) = (n : ℕ) × Solves b moves n × IsAnswer guide b (min n 255) budget search.Spent
+  IsOptimumFor b moves (Refused K1) = (n : ℕ) × Solves b moves n × IsAnswerInTurn guide None b (min n 255) budget search.Spent
   IsOptimumFor b moves (Refused K2) = (n : ℕ) × Solves b moves n × (255 < n) × IsRefuted b (min n 255)
   IsOptimumFor b moves _ = ⊥
 
@@ -53,7 +53,7 @@ module _ (guide : ShownGuide) (budget : ℕ) where
   abbrev pub IsBoundFor : List ℕ → ℕ → Finding → Type 0
   IsBoundFor b r Bound = IsRefuted b r
   IsBoundFor b r (Shorter letters) = IsAnswer guide b r budget (search.Solved letters)
-  IsBoundFor b r (Refused K1) = IsAnswer guide b r budget search.Spent
+  IsBoundFor b r (Refused K1) = IsAnswerInTurn guide None b r budget search.Spent
   IsBoundFor b r (Refused K2) = ¬ HasTheBlanksParity b
   IsBoundFor b r _ = ⊥
 
@@ -66,7 +66,7 @@ module _ (guide : ShownGuide) (budget : ℕ) where
   abbrev pub IsPartFor : List ℕ → ℕ → ShownPart → Finding → Type 0
   IsPartFor b r p Part = IsRefutedPart b r p
   IsPartFor b r p (Shorter letters) = IsAnswerOfPart guide p b r budget (search.Solved letters)
-  IsPartFor b r p (Refused K1) = IsAnswerOfPart guide p b r budget search.Spent
+  IsPartFor b r p (Refused K1) = IsAnswerInTurn guide (Some p) b r budget search.Spent
   IsPartFor b r p (Refused K2) = ¬ HasTheBlanksParity b
   IsPartFor b r p _ = ⊥
 

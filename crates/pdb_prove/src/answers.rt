@@ -1,10 +1,10 @@
 //! The answer to one claim, by one thread or by all workers.
 
-ghost use Rattle.std.specs.Prelude.{◌≡◌, ℕ, IfErr, IfOk, IfSome, List, min};
+ghost use Rattle.std.specs.Prelude.{◌≡◌, ℕ, IfErr, IfOk, IfSome, List, None, Some, min};
 ghost use Rattle.puz_board.specs.MovesTexts.{Solves};
 ghost use Rattle.claim_text.specs.Shown.{claim_shown};
 ghost use Rattle.move_strings.specs.BoundParts.{ShownPart};
-ghost use Rattle.puz_search.specs.Answers.{IsAnswer, IsAnswerOfPart, IsDeepened};
+ghost use Rattle.puz_search.specs.Answers.{IsAnswerInTurn, IsDeepened};
 ghost use Rattle.puz_search.specs.Guides.{ShownGuide};
 ghost use Rattle.pdb_prove.specs.Answers.{IsBoundFor, IsFoundBy, IsOptimumFor, IsPartFor, IsShortestFor, is_found_yes};
 ghost use Rattle.pdb_prove.specs.Posed.{IsPosed};
@@ -16,8 +16,8 @@ use pdb_verdict::Fault;
 use puz_board::{Board, replay};
 use puz_make::is_solvable;
 use puz_search::{
-    Deepened, Guide, Letters, PartBound, SearchAnswer, refute, refute_alone, shortest,
-    shortest_alone,
+    Deepened, Guide, Letters, PartBound, SearchAnswer, refute_by_thresholds,
+    refute_by_thresholds_alone, shortest, shortest_alone,
 };
 use std::thread::Threads;
 use work_run::{Gate, Workers};
@@ -85,13 +85,13 @@ fn answer_alone(guide: &Guide<'_>, posed: Posed<'_>, budget: u64) -> Finding
         }
         Ok(Question::Moves(count)) => {
             let bound = PartBound::whole(bound_of(count));
-            found_moves(count, refute_alone(guide, start, &bound, budget))
+            found_moves(count, refute_by_thresholds_alone(guide, start, &bound, budget))
         }
         Ok(Question::Bound(bound)) => {
             let bound = PartBound::whole(bound);
-            found_bound(refute_alone(guide, start, &bound, budget))
+            found_bound(refute_by_thresholds_alone(guide, start, &bound, budget))
         }
-        Ok(Question::Part(part)) => found_part(refute_alone(guide, start, &part, budget)),
+        Ok(Question::Part(part)) => found_part(refute_by_thresholds_alone(guide, start, &part, budget)),
         Err(refused) => Finding::Refused(refused),
     }
 }
@@ -113,13 +113,13 @@ pub(crate) fn answer_by<R: Threads + Sync, G: Gate + Sync>(
         }
         Ok(Question::Moves(count)) => {
             let bound = PartBound::whole(bound_of(count));
-            found_moves(count, refute(guide, start, &bound, budget, workers))
+            found_moves(count, refute_by_thresholds(guide, start, &bound, budget, workers))
         }
         Ok(Question::Bound(bound)) => {
             let bound = PartBound::whole(bound);
-            found_bound(refute(guide, start, &bound, budget, workers))
+            found_bound(refute_by_thresholds(guide, start, &bound, budget, workers))
         }
-        Ok(Question::Part(part)) => found_part(refute(guide, start, &part, budget, workers)),
+        Ok(Question::Part(part)) => found_part(refute_by_thresholds(guide, start, &part, budget, workers)),
         Err(refused) => Finding::Refused(refused),
     }
 }
@@ -183,7 +183,7 @@ fn found_shortest(board: &Board, deepened: Deepened) -> Finding
 /// What is found where so many moves solve a board and a search for a shorter solution answers this.
 fn found_moves(count: u16, answer: SearchAnswer) -> Finding
     ensures { (guide : ShownGuide) (budget : ℕ) (b moves : List ℕ) → Solves b moves count
-        → IsAnswer guide b (min count 255) budget answer
+        → IsAnswerInTurn guide None b (min count 255) budget answer
         → IsOptimumFor guide budget b moves result }
 {
     match answer {
@@ -197,7 +197,7 @@ fn found_moves(count: u16, answer: SearchAnswer) -> Finding
 /// What is found where a bound is claimed and a search for a solution of fewer moves answers this.
 fn found_bound(answer: SearchAnswer) -> Finding
     ensures { (guide : ShownGuide) (budget : ℕ) (b : List ℕ) (r : ℕ)
-        → IsAnswer guide b r budget answer → IsBoundFor guide budget b r result }
+        → IsAnswerInTurn guide None b r budget answer → IsBoundFor guide budget b r result }
 {
     match answer {
         SearchAnswer::Refuted(_) => Finding::Bound,
@@ -209,7 +209,7 @@ fn found_bound(answer: SearchAnswer) -> Finding
 /// What is found where a part of a bound is claimed and the search of the part answers this.
 fn found_part(answer: SearchAnswer) -> Finding
     ensures { (guide : ShownGuide) (budget : ℕ) (b : List ℕ) (r : ℕ) (p : ShownPart)
-        → IsAnswerOfPart guide p b r budget answer → IsPartFor guide budget b r p result }
+        → IsAnswerInTurn guide (Some p) b r budget answer → IsPartFor guide budget b r p result }
 {
     match answer {
         SearchAnswer::Refuted(_) => Finding::Part,

@@ -3,12 +3,12 @@ use Rattle.std.proofs.Common.{◌≡◌, ℕ, ◌<◌, ◌≤◌, ◌↔◌, Lis
 use Rattle.puz_board.specs.Boards.{IsBoard, IsBoardOf}
 use Rattle.puz_board.proofs.BoardLemmas.{side_of-board}
 use Rattle.puz_walk.specs.Walks.{IsClosed}
-use Rattle.puz_search.specs.Answers.{IsAnswer, IsAnswerOfPart, IsAnswerTo, SearchFails}
+use Rattle.puz_search.specs.Answers.{IsAnswer, IsAnswerOfPart, IsAnswerTo}
 use Rattle.puz_search.specs.Guides.{IsGuide}
 use Rattle.puz_search.specs.Nodes.{IsFirst, IsLed, IsPartAnswer, node_counts, search_counts, solves_below, solves_first}
 use Rattle.move_strings.specs.BoundParts.{ShownPart, letters_of}
 use Rattle.puz_search.specs.Prefixes.{Count, IsPrefixOf, IsRead, at_least, counted, in_all, only_part, part_of, prefix_counts}
-use Rattle.puz_search.specs.Searches.{Fails, SearchOfPartFails}
+use Rattle.puz_search.specs.Searches.{Fails, SearchFails, SearchOfPartFails}
 use Rattle.puz_search.specs.declared.answers.SearchAnswer.{SearchAnswer}
 use Rattle.puz_search.specs.declared.answers.SearchAnswer.TheVariants.{Refuted, Solved, Spent}
 use Rattle.puz_search.specs.declared.nodes.Node.{Node}

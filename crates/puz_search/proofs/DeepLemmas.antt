@@ -1,5 +1,5 @@
 -- Bounds of one parity: all solutions of a board have it.
-use Rattle.std.proofs.Common.{◌≡◌, ℕ, suc, ◌+◌, ◌-◌, ◌*◌, ◌%◌, ◌<◌, ◌≤◌, List, length, refl, subst, arith}
+use Rattle.std.proofs.Common.{◌≡◌, ℕ, suc, ◌+◌, ◌-◌, ◌*◌, ◌%◌, ◌<◌, ◌≤◌, List, None, length, refl, subst, arith}
 use Rattle.puz_board.specs.Boards.{IsBoardOf}
 use Rattle.puz_board.specs.MovesTexts.{Solves}
 use Rattle.puz_board.specs.Parity.{blank_parity}
@@ -40,7 +40,7 @@ pub record IsDeep (g : ShownGuide) (b : List ℕ) (budget left bound : ℕ) : Ty
   pub thresholds : ℕ
   pub reached : bound ≡ blank_parity b + 2 * thresholds
   pub spent : ℕ
-  pub fails : FailsInTurn g b thresholds spent
+  pub fails : FailsInTurn g None b thresholds spent
   pub sum : spent + left ≡ budget
 
 module _ (g : ShownGuide) (b : List ℕ) (good : IsBoardOf g.bundle.side b) (budget : ℕ) where

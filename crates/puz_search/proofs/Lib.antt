@@ -7,5 +7,6 @@ mod FrontierLemmas
 mod NodeLemmas
 mod OutcomeLemmas
 mod PrefixLemmas
+mod ThresholdLemmas
 mod TrailLemmas
 mod WalkLemmas

@@ -5,7 +5,7 @@ use Rattle.puz_board.specs.Parity.{blank_parity}
 use Rattle.move_strings.specs.BoundParts.{IsPartBounded, ShownPart}
 use Rattle.set_sum.specs.Bounds.{IsBounded}
 use Rattle.puz_search.specs.Guides.{ShownGuide}
-use Rattle.puz_search.specs.Searches.{Fails, FailsInTurn, HasBoards, SearchOfPartFails, SearchOfPartHas}
+use Rattle.puz_search.specs.Searches.{Fails, FailsInTurn, HasBoards, SearchHas, SearchOfPartFails, SearchOfPartHas}
 use Rattle.puz_search.specs.declared.answers.SearchAnswer.{SearchAnswer}
 use Rattle.puz_search.specs.declared.answers.SearchAnswer.TheVariants as answer
 use Rattle.puz_search.specs.declared.deepening.Deepened.{Deepened}
@@ -36,19 +36,24 @@ abbrev pub IsAnswerTo : ShownGuide → Option ShownPart → List ℕ → ℕ →
 IsAnswerTo g None b r budget answer = IsAnswer g b r budget answer
 IsAnswerTo g (Some p) b r budget answer = IsAnswerOfPart g p b r budget answer
 
--- the search of it fails, and expands so many boards
-abbrev pub SearchFails : ShownGuide → Option ShownPart → ℕ → List ℕ → ℕ → Type 0
-SearchFails g None r b boards = Fails g r b 0 boards
-SearchFails g (Some p) r b boards = SearchOfPartFails g p r b boards
-
 -- ---- threshold by threshold
 
--- the searches below the first k thresholds fail in turn within the budget, and the search below the next threshold has more boards
+-- the searches below the first k thresholds fail in turn within the budget, and the search below r, which comes next, has more boards
 -- than what they leave of it
+abbrev pub IsSpentBelow : ShownGuide → Option ShownPart → List ℕ → ℕ → ℕ → ℕ → Type 0
+IsSpentBelow g p b budget k r =
+    (spent boards : ℕ) × FailsInTurn g p b k spent × (spent ≤ budget) × SearchHas g p r b boards × (budget < spent + boards)
+
+-- so it is below the next threshold
 abbrev pub IsSpentAfter : ShownGuide → List ℕ → ℕ → ℕ → Type 0
-IsSpentAfter g b budget k =
-    (spent boards : ℕ) × FailsInTurn g b k spent × (spent ≤ budget) ×
-    HasBoards g (blank_parity b + 2 * k + 1) b 0 boards × (budget < spent + boards)
+IsSpentAfter g b budget k = IsSpentBelow g None b budget k (blank_parity b + 2 * k + 1)
+
+-- An answer as it is to the search below a bound, or of a part of it. But the budget is for the searches below lower thresholds too,
+-- which come first: it is spent where one below the bound, or below less, has more boards than those below the first k thresholds
+-- leave, none of which is greater.
+abbrev pub IsAnswerInTurn : ShownGuide → Option ShownPart → List ℕ → ℕ → ℕ → SearchAnswer → Type 0
+IsAnswerInTurn g p b r budget answer.Spent = (k bound : ℕ) × (2 * k ≤ bound) × (bound ≤ r) × IsSpentBelow g p b budget k bound
+IsAnswerInTurn g p b r budget answer = IsAnswerTo g p b r budget answer
 
 -- These letters are a shortest solution. Or no solution has fewer moves than this bound, and the search below the next threshold
 -- and those before it have more boards than the budget. Or no solution has fewer than 254 moves.

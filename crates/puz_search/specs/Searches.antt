@@ -95,11 +95,23 @@ SearchOfPartFails g p r b boards = PartFails g p (letters_of p) 0 r b 0 boards
 abbrev pub SearchOfPartHas : ShownGuide → ShownPart → ℕ → List ℕ → ℕ → Type 0
 SearchOfPartHas g p r b boards = PartHas g p (letters_of p) 0 r b 0 boards
 
+-- ---- of a bound, or of a part of one where it is said
+
+-- the search for a solution of fewer than r moves fails, and expands so many boards
+abbrev pub SearchFails : ShownGuide → Option ShownPart → ℕ → List ℕ → ℕ → Type 0
+SearchFails g None r b boards = Fails g r b 0 boards
+SearchFails g (Some p) r b boards = SearchOfPartFails g p r b boards
+
+-- it has at least so many boards
+abbrev pub SearchHas : ShownGuide → Option ShownPart → ℕ → List ℕ → ℕ → Type 0
+SearchHas g None r b boards = HasBoards g r b 0 boards
+SearchHas g (Some p) r b boards = SearchOfPartHas g p r b boards
+
 -- ---- thresholds
 
 -- The searches below the first k thresholds of a board fail, and expand so many boards in all. Each begins in the first state of
 -- the automaton. The first threshold is one more than the parity of the blank's cell, which is that of all solutions, and each next
 -- one two more.
-abbrev pub FailsInTurn : ShownGuide → List ℕ → ℕ → ℕ → Type 0
-FailsInTurn g b zero boards = boards ≡ 0
-FailsInTurn g b (suc k) boards = InTurn (FailsInTurn g b k) (Fails g (blank_parity b + 2 * k + 1) b 0) boards
+abbrev pub FailsInTurn : ShownGuide → Option ShownPart → List ℕ → ℕ → ℕ → Type 0
+FailsInTurn g p b zero boards = boards ≡ 0
+FailsInTurn g p b (suc k) boards = InTurn (FailsInTurn g p b k) (SearchFails g p (blank_parity b + 2 * k + 1) b) boards

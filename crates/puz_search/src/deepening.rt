@@ -41,10 +41,7 @@ pub fn shortest<R: Threads + Sync, G: Gate + Sync>(
     let mut bound = start.board.blank_parity();
     let mut left = budget;
     while bound < LARGEST_BOUND {
-        let threshold = PartBound {
-            bound: bound + 1,
-            part: None,
-        };
+        let threshold = PartBound::whole(bound + 1);
         match refute(guide, start, &threshold, left, workers) {
             SearchAnswer::Refuted(boards) => {
                 left -= boards;
@@ -65,10 +62,7 @@ pub fn shortest_alone(guide: &Guide<'_>, start: &Start, budget: u64) -> Deepened
     let mut bound = start.board.blank_parity();
     let mut left = budget;
     while bound < LARGEST_BOUND {
-        let threshold = PartBound {
-            bound: bound + 1,
-            part: None,
-        };
+        let threshold = PartBound::whole(bound + 1);
         match refute_alone(guide, start, &threshold, left) {
             SearchAnswer::Refuted(boards) => {
                 left -= boards;

@@ -16,9 +16,11 @@ mod refuting;
 mod refuting_alone;
 mod searches;
 mod sharing;
+mod thresholds;
 mod walks;
 
 pub use answers::{Letters, SearchAnswer};
 pub use deepening::{Deepened, shortest, shortest_alone};
 pub use guides::{Guide, Sets};
 pub use refuting::{PartBound, refute, refute_alone};
+pub use thresholds::{refute_by_thresholds, refute_by_thresholds_alone};

@@ -2,8 +2,9 @@
 
 ghost use Rattle.std.specs.Prelude.{◌≡◌, ◌≤◌, ℕ, None, Some};
 ghost use Rattle.puz_walk.specs.Starts.{IsStart};
-ghost use Rattle.puz_search.specs.Answers.{IsAnswerTo, SearchFails};
+ghost use Rattle.puz_search.specs.Answers.{IsAnswerTo};
 ghost use Rattle.puz_search.specs.Prefixes.{IsPrefixOf};
+ghost use Rattle.puz_search.specs.Searches.{SearchFails};
 ghost use Rattle.puz_search.specs.declared.answers.SearchAnswer.TheVariants.{Refuted};
 
 use crate::answers::SearchAnswer;
@@ -42,6 +43,13 @@ impl PartBound {
             bound,
             part: Some(part),
         }
+    }
+
+    /// A lower bound, or the same part of it.
+    pub(crate) fn below(&self, bound: u8) -> PartBound
+        ensures { result ≡ record { bound = bound; part = self.now.part } }
+    {
+        PartBound { bound, ..*self }
     }
 
     /// The bound.
