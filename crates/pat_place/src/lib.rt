@@ -18,5 +18,5 @@ pub use patterns::Pattern;
 pub use placements::Placement;
 pub use ranks::{Standing, next, rank, rank_among, standing_of, unrank};
 pub use set_numbers::SetNumbers;
-pub use slot_tables::SlotTable;
+pub use slot_tables::{SlotTable, next_of_size};
 pub use slots::{find_region, free_cells, regions, slot_of};

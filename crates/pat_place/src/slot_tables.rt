@@ -105,8 +105,8 @@ impl SlotTable {
 }
 
 /// The next greater mask of as many cells, where there is one: the lowest run of cells gives its uppermost cell upwards, and
-/// the others go down to the lowest cells. No clause speaks of it.
-fn next_of_size(set: u32) -> u32 {
+/// the others go down to the lowest cells. No clause speaks of it: who goes over sets by it counts their cells.
+pub fn next_of_size(set: u32) -> u32 {
     let lowest = set.trailing_zeros();
     let carried = set.wrapping_add(1u32.wrapping_shl(lowest));
     let others = (set ^ carried).wrapping_shr(lowest.wrapping_add(2));

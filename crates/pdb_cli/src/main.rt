@@ -16,8 +16,6 @@ use std::fs::File;
 use std::io::Read;
 use std::process::ExitCode;
 use std::rt::Files;
-use std::sync::Wait;
-use std::thread::Threads;
 use std::{env, fs, io, str};
 
 /// The system lets no argument take more bytes.
@@ -81,20 +79,11 @@ fn tell_reason<'n>(
 
 /// The refusal that the starts of the files show before the run begins, where the run may take long.
 #[inline(never)] // so that the stack hasn't its values while the run is on
-fn fault_before<R: Files + Threads + Wait>(
-    rt: &R,
-    alloc: Global,
-    asked: &Request<'_>,
-) -> Option<Fault> {
+fn fault_before<R: Files>(rt: &R, alloc: Global, asked: &Request<'_>) -> Option<Fault> {
     if !takes_long(rt, asked) {
         return None;
     }
-    let look = Look {
-        rt,
-        alloc,
-        files: rt,
-    };
-    fault_ahead(&look, asked)
+    fault_ahead(&Look { alloc, files: rt }, asked)
 }
 
 /// The files that the run checks, in order, where they are to be told and can be.

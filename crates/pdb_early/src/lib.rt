@@ -6,6 +6,5 @@ mod headers;
 mod logs;
 mod looks;
 mod sets;
-mod tiles;
 
 pub use looks::{Look, fault_ahead, takes_long};

@@ -8,24 +8,20 @@ use claim_text::{Claim, read_claims};
 use log_check::LogRefusal;
 use pdb_request::{LogCheck, LogClaim, Prove, Request, Solve};
 use pdb_verdict::{Fault, begin_claim};
-use puz_board::{Board, Side};
-use puz_make::is_solvable;
+use puz_board::{Board, Side, is_solvable};
 use std::alloc::Global;
 use std::fs;
 use std::rt::Files;
-use std::sync::Wait;
-use std::thread::Threads;
 use tab_rule::TableRefusal;
 
 /// What is needed to look at files.
 #[derive(Drop)]
-pub struct Look<'a, H, R> {
-    pub rt: &'a H,
+pub struct Look<'a, R> {
     pub alloc: Global,
     pub files: &'a R,
 }
 
-impl<H, R: Files> Look<'_, H, R> {
+impl<R: Files> Look<'_, R> {
     /// The start of a file.
     fn front(&self, name: &str) -> Option<FileStart> {
         FileStart::of(self.alloc, self.files, name)
@@ -64,10 +60,7 @@ pub fn takes_long<R: Files>(files: &R, asked: &Request<'_>) -> bool {
 ///
 /// Files are looked at where they are plain ones, and not read beyond 4096 bytes. Nothing is said where the text of the board or of the
 /// claims is refused, which the run tells before it checks a table.
-pub fn fault_ahead<H: Threads + Wait, R: Files>(
-    look: &Look<'_, H, R>,
-    asked: &Request<'_>,
-) -> Option<Fault> {
+pub fn fault_ahead<R: Files>(look: &Look<'_, R>, asked: &Request<'_>) -> Option<Fault> {
     match asked {
         Request::LogCheck(check) => log_check_fault(look, check),
         Request::Solve(search) => search_fault(look, search),
@@ -77,10 +70,7 @@ pub fn fault_ahead<H: Threads + Wait, R: Files>(
 }
 
 /// Of `bound` and `optimal`.
-fn log_check_fault<H: Threads + Wait, R: Files>(
-    look: &Look<'_, H, R>,
-    check: &LogCheck<&str>,
-) -> Option<Fault> {
+fn log_check_fault<R: Files>(look: &Look<'_, R>, check: &LogCheck<&str>) -> Option<Fault> {
     let board = look.board(check.claim, check.text)?;
     match side_of(look, check.sets, check.tables.as_slice()) {
         Ok(side) => {
@@ -93,10 +83,7 @@ fn log_check_fault<H: Threads + Wait, R: Files>(
 }
 
 /// Of `solve`.
-fn search_fault<H: Threads + Wait, R: Files>(
-    look: &Look<'_, H, R>,
-    search: &Solve<'_, &str>,
-) -> Option<Fault> {
+fn search_fault<R: Files>(look: &Look<'_, R>, search: &Solve<'_, &str>) -> Option<Fault> {
     let board = look.board(LogClaim::Bound, search.board)?;
     match side_of(look, search.sets, search.tables.as_slice()) {
         Ok(side) => {
@@ -114,10 +101,7 @@ fn search_fault<H: Threads + Wait, R: Files>(
 }
 
 /// Of `prove`.
-fn prove_fault<H: Threads + Wait, R: Files>(
-    look: &Look<'_, H, R>,
-    prove: &Prove<Option<&str>, &str>,
-) -> Option<Fault> {
+fn prove_fault<R: Files>(look: &Look<'_, R>, prove: &Prove<Option<&str>, &str>) -> Option<Fault> {
     let front = prove.claims.and_then(|name| look.front(name));
     let claims = match front.as_ref().and_then(|front| front.whole_lines()) {
         Some(lines) => Some(read_claims(look.alloc, lines).ok()?),
@@ -140,8 +124,8 @@ fn of_another_side(claims: &[Claim<'_>], side: Side) -> Option<u32> {
 }
 
 /// The side of tables, where it is seen. Or why the tables, or these and a set text, are refused.
-fn side_of<H: Threads + Wait, R: Files>(
-    look: &Look<'_, H, R>,
+fn side_of<R: Files>(
+    look: &Look<'_, R>,
     sets: &str,
     tables: &[&str],
 ) -> Result<Option<Side>, Fault> {
@@ -152,7 +136,7 @@ fn side_of<H: Threads + Wait, R: Files>(
     let patterns = patterns.as_ref().map(|patterns| patterns.as_slice());
     let front = look.front(sets);
     let text = front.as_ref().and_then(|front| front.whole());
-    match sets_fault(look, text, tables.len(), patterns) {
+    match sets_fault(text, tables.len(), patterns) {
         Some(fault) => Err(Fault::Sets(fault)),
         None => Ok(patterns.and_then(|patterns| Some(patterns.first()?.side()))),
     }

@@ -8,7 +8,7 @@ use Rattle.claim_text.specs.Claims as claims
 use Rattle.claim_text.specs.Claims.{ShownAsks, ShownClaim}
 use Rattle.claim_text.specs.Lines as line
 use Rattle.claim_text.specs.Lines.{Told}
-use Rattle.puz_make.specs.Solvable.{HasTheBlanksParity}
+use Rattle.puz_board.specs.Solvable.{HasTheBlanksParity}
 use Rattle.move_strings.specs.BoundParts.{ShownPart}
 use Rattle.puz_search.specs.Answers.{IsAnswer, IsAnswerInTurn, IsAnswerOfPart, IsDeepened}
 use Rattle.puz_search.specs.Guides.{IsGuide, LeavesOutReversals, ShownGuide}

@@ -13,8 +13,7 @@ ghost use Rattle.pdb_prove.specs.Steps.{IsAskedOf, is_spent};
 use crate::posed::Posed;
 use claim_text::{Asks, Claim};
 use pdb_verdict::Fault;
-use puz_board::{Board, replay};
-use puz_make::is_solvable;
+use puz_board::{Board, is_solvable, replay};
 use puz_search::{
     Deepened, Guide, Letters, PartBound, SearchAnswer, refute_by_thresholds,
     refute_by_thresholds_alone, shortest, shortest_alone,

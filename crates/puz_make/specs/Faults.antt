@@ -4,7 +4,7 @@ use Rattle.set_sum.specs.Bundles.{SaysAtLeast, ShownBundle}
 use Rattle.tab_make.specs.declared.faults.MakeFault.{MakeFault}
 use Rattle.tab_make.specs.declared.faults.MakeFault.TheVariants.{K5, Memory, Wrong}
 pub use Rattle.tab_make.specs.Faults.{IsBuildFault}
-use Rattle.puz_make.specs.Solvable.{HasTheBlanksParity}
+use Rattle.puz_board.specs.Solvable.{HasTheBlanksParity}
 
 -- no log proves how few moves solve the board: it has no solution, by the parity of its numbers, or a set says of it never, or, by
 -- parity, more moves than the greatest bound of a lemma, which is 255

@@ -1,4 +1,3 @@
 -- What public contracts say.
 pub use Rattle.tab_make.specs.Layers
 pub mod Faults
-pub mod Solvable

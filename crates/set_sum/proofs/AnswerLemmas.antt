@@ -3,17 +3,20 @@ use Rattle.std.proofs.Common.{◌≡◌, ◌≢◌, ℕ, zero, suc, ◌<◌, ◌
 use Rattle.std.proofs.lemmas.Bool.{cases_order}
 use Rattle.std.specs.Prelude.{Err, IfErr, IfOk, Ok, Result, slice_get}
 use Rattle.std.specs.List.{AllByRecursion}
+use Rattle.pat_place.specs.Patterns.{ShownPattern}
 use Rattle.set_sum.specs.Bundles.{ShownBundle, most_sets}
 use Rattle.set_sum.specs.Parts.{part_pattern}
 use Rattle.set_sum.specs.Reading.{AreAlike, AreFew, AreNotFew, AreSets, IsBundleOf, IsSetFaultOf, IsFirstWith, NamesNoTable, NamesOverlap, NamesTwice}
 use Rattle.set_sum.specs.Reading.{first_side}
 use Rattle.set_sum.specs.SetTexts.{AreLines}
+use Rattle.set_sum.specs.OverPatterns.{AreSetsOver, IsFaultOver, bundle_with, tables_with}
 use Rattle.set_sum.specs.declared.faults.SetFault.{SetFault}
 use Rattle.set_sum.specs.declared.faults.SetFault.TheVariants.{S1, S2, S3, S4, S5, S6}
 use Rattle.set_sum.specs.declared.members.Member.{Member}
 use Rattle.set_sum.specs.declared.parts.Part.{Part}
 use Rattle.set_sum.proofs.ListLemmas.{all_weaker}
 use Rattle.set_sum.proofs.LineLemmas.{AreLines-once, bad_line-once, no_bad_line}
+use Rattle.set_sum.proofs.PatternLemmas.{have_with}
 
 -- ---- the first element with a property
 
@@ -152,3 +155,29 @@ module _ (tables : List Part) (text : List ℕ) where
       → (f : SetFault) → IsSetFaultOf f tables text → r ≡ Err f
   refused (Ok w) ok err f is = absurd (bundle-no_fault w f ok is)
   refused (Err g) ok err f is = ap Err (fault-once g f err is)
+
+-- ---- sets over patterns
+
+-- a right answer about a text that has sets over the patterns is these sets
+pub sets_made : (patterns : List ShownPattern) (text : List ℕ) (r : Result (List (List Member)) SetFault) → IfOk r (λ sets. AreSetsOver patterns text sets)
+    → IfErr r (λ fault. IsFaultOver fault patterns text) → (sets : List (List Member)) → AreSetsOver patterns text sets → r ≡ Ok sets
+sets_made patterns text (Ok other) ok err sets are =
+    let others = tables_with patterns in
+    let of_tables = have_with patterns in
+    ap (λ (v : ShownBundle). Ok v.sets) (bundle-once others text (bundle_with others other) (bundle_with others sets) (ok others of_tables) (are others of_tables))
+sets_made patterns text (Err fault) ok err sets are =
+    let others = tables_with patterns in
+    let of_tables = have_with patterns in
+    absurd (bundle-no_fault others text (bundle_with others sets) fault (are others of_tables) (err others of_tables))
+
+-- a right answer about a text that has a fault over the patterns is this fault
+pub sets_refused : (patterns : List ShownPattern) (text : List ℕ) (r : Result (List (List Member)) SetFault) → IfOk r (λ sets. AreSetsOver patterns text sets)
+    → IfErr r (λ fault. IsFaultOver fault patterns text) → (fault : SetFault) → IsFaultOver fault patterns text → r ≡ Err fault
+sets_refused patterns text (Ok other) ok err fault is =
+    let others = tables_with patterns in
+    let of_tables = have_with patterns in
+    absurd (bundle-no_fault others text (bundle_with others other) fault (ok others of_tables) (is others of_tables))
+sets_refused patterns text (Err other) ok err fault is =
+    let others = tables_with patterns in
+    let of_tables = have_with patterns in
+    ap Err (fault-once others text other fault (err others of_tables) (is others of_tables))

@@ -4,34 +4,26 @@ use Rattle.std.proofs.lemmas.Bool.{cases_lt}
 use Rattle.std.proofs.lemmas.List.{length-map}
 use Rattle.std.specs.Prelude.{Any}
 use Rattle.std.specs.List.{AllByRecursion}
-use Rattle.arrayvec.specs.ArrayVec.{ArrayVec}
 use Rattle.puz_board.specs.Boards.{IsBoardOf}
 use Rattle.pat_place.specs.Patterns.{IsPattern}
 use Rattle.tab_rule.specs.declared.tables.Count.{Count}
 use Rattle.set_sum.specs.Bundles.{ShownBundle, IsBundle, IsSetOf, TellsOfAll, most_tables}
 use Rattle.set_sum.specs.Members.{board_for, patterns_of_set, table_of}
-use Rattle.set_sum.specs.ReadLines.{AreSetsOf}
 use Rattle.set_sum.specs.Parts.{IsExactPart, PartSays, ShownPart, no_part, part_pattern, part_shown, parts_shown}
 use Rattle.set_sum.specs.SetTexts.{IsLine}
-use Rattle.set_sum.specs.Reading.{AreAlike, IsBundleOf, NamesNoTable, NamesOverlap, first_side}
-use Rattle.set_sum.specs.StoredBundles.{AreAllOwners, AreAllTransposed, IsStoredBundle, bundle_shown, sets_stored}
+use Rattle.set_sum.specs.OverPatterns.{bundle_with}
+use Rattle.set_sum.specs.Reading.{IsBundleOf, NamesNoTable, NamesOverlap, first_side}
+use Rattle.set_sum.specs.StoredBundles.{AreAllOwners, AreAllTransposed, IsStoredBundle, bundle_shown}
 use Rattle.set_sum.specs.Sums.{AreDisjoint, SetSays}
 use Rattle.set_sum.specs.declared.bundles.Bundle.TheInside.{Inside}
 use Rattle.set_sum.specs.declared.members.Member.{Member}
 use Rattle.set_sum.specs.declared.parts.Part.{Part}
 use Rattle.set_sum.proofs.AnyLemmas.{Any-here, Any-later}
-use Rattle.set_sum.proofs.LinesReadLemmas.{all_there}
-use Rattle.set_sum.proofs.ListLemmas.{all_at, all_weaker, mapped_at}
+use Rattle.set_sum.proofs.ListLemmas.{all_at, all_weaker}
 use Rattle.set_sum.proofs.HomeLemmas.{IsOf}
 use Rattle.set_sum.proofs.MemberLemmas.{board_for-good}
 use Rattle.set_sum.proofs.PartLemmas.{part_told, pattern_exact, shown_tiles}
 use Rattle.set_sum.proofs.SumLemmas.{IsTold, set_told}
-
--- what is stored of a set is what is shown of it
-module _ (v : Inside) (place : ℕ) (low : place < length (bundle_shown v).sets) (set : ArrayVec Member) (is : set ≡ get_or v.sets.items place set) where
-  -- what is stored of a set are the members that the bundle shows at its place
-  pub stored_set : get_or (bundle_shown v).sets place [] ≡ set.items
-  stored_set = mapped_at (λ s. s.items) v.sets.items place set [] (subst (λ n. place < n) (length-map v.sets.items (λ s. s.items)) low) is
 
 -- the tables of a set's members are there
 pub set_there : (v : ShownBundle) → IsBundle v → (number : ℕ) → number < length v.sets
@@ -139,20 +131,18 @@ module _ (tables : List Part) (text : List ℕ) (v : ShownBundle) (exact : AllBy
         told = told;
       }
 
-module _ (v : Inside) (text : List ℕ) (first : v.side ≡ first_side v.tables.items) (alike : AreAlike v.tables.items)
-    (exact : AllByRecursion IsExactPart v.tables.items)
-    (are : AreSetsOf v.tables.items text (sets_stored v)) where
+module _ (v : Inside) (text : List ℕ) (side : v.side ≡ first_side v.tables.items) (exact : AllByRecursion IsExactPart v.tables.items)
+    (is : IsBundleOf v.tables.items text (bundle_with v.tables.items v.sets)) where
   -- the bundle that is stored with these sets is the one that the tables and the text make
   pub bundle_made : IsBundleOf v.tables.items text (bundle_shown v)
   bundle_made = record {
-    alike = alike;
-    side = first;
+    alike = is.alike;
+    side = side;
     shown = refl;
-    are_sets = are.are_sets;
-    there = all_weaker (AllByRecursion (λ m. m.table < length v.tables.items)) (λ set. ¬ NamesNoTable v.tables.items set)
-        (all_there (length v.tables.items)) (sets_stored v) are.there;
-    apart = are.apart;
-    disjoint = are.disjoint;
+    are_sets = is.are_sets;
+    there = is.there;
+    apart = is.apart;
+    disjoint = is.disjoint;
   }
 
   -- with the owners of all tiles and all transposed cells, the fields are those of a stored bundle

@@ -14,6 +14,7 @@ pub mod NumeralLemmas
 pub mod OrderLemmas
 pub mod ParityLemmas
 pub mod PartLemmas
+mod PatternLemmas
 mod ReadLemmas
 pub mod SayLemmas
 pub mod SlideLemmas

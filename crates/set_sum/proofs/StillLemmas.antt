@@ -1,16 +1,12 @@
 -- What a member says of a board it says after the move of a tile that its pattern hasn't: such a move costs the pattern nothing,
 -- and may be taken back.
-use Rattle.std.proofs.Common.{◌≡◌, ℕ, ◌+◌, ◌*◌, ◌<◌, ◌≤◌, Bool, true, false, cond, List, ◌∷◌, Some, sym, ◌∙◌, ap, subst, arith, zero-add}
-use Rattle.std.specs.Prelude.{MatchBool, option_map}
-use Rattle.puz_board.specs.Boards.{IsBoardOf, at, blank, moved, side_of, slid}
-use Rattle.puz_board.specs.Cells.{Adjacent, reverse_of, step_of}
-use Rattle.puz_board.specs.Costs.{IsHome, LeadsHome, cost, has}
-use Rattle.puz_board.specs.Paths.{IsPath, after}
+use Rattle.std.proofs.Common.{◌≡◌, ℕ, Bool, true, false, cond, List, sym, ◌∙◌, ap, subst}
+use Rattle.std.specs.Prelude.{MatchBool}
+use Rattle.puz_board.specs.Boards.{IsBoardOf, at, blank, side_of, slid}
+use Rattle.puz_board.specs.Cells.{Adjacent}
+use Rattle.puz_board.specs.Costs.{has}
 use Rattle.puz_board.specs.Transposing.{transposed, transposed_cell}
-use Rattle.puz_board.proofs.BoardLemmas.{IsBoardOf-slid, at-slid_back, blank-slid, cell_of-below, cells_least, side_of-board, side_of-slid}
-use Rattle.puz_board.proofs.BoardWays.{Adjacent-apart}
-use Rattle.puz_board.proofs.CellLemmas.{reverse_of-takes_back}
-use Rattle.puz_board.proofs.MovedLemmas.{moved-reverse_of}
+use Rattle.puz_board.proofs.BoardLemmas.{IsBoardOf-slid, side_of-slid}
 use Rattle.puz_board.proofs.TransposeLemmas.{Adjacent-transposed, IsBoardOf-transposed, at-transposed, blank-transposed, cell_below, cell_twice}
 use Rattle.puz_board.proofs.TransposeLemmas.{slid-transposed}
 use Rattle.pat_place.specs.Placements.{placement_of}

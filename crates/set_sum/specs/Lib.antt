@@ -4,6 +4,7 @@ pub mod Bundles
 pub mod Known
 pub mod Laws
 pub mod Members
+pub mod OverPatterns
 pub mod Parts
 pub mod Raised
 pub mod Reading

@@ -3,10 +3,9 @@ use Rattle.std.specs.Prelude.{◌≡◌, ℕ, ◌<◌, ◌≤◌, ◌++◌, ⊤,
 use Rattle.std.specs.List.{AllByRecursion}
 use Rattle.set_sum.specs.Bundles.{most_sets}
 use Rattle.set_sum.specs.Members.{IsBefore}
-use Rattle.set_sum.specs.Reading.{AreSets, IsFirstWith, NamesOverlap, NamesTwice}
+use Rattle.set_sum.specs.Reading.{IsFirstWith}
 use Rattle.set_sum.specs.SetTexts.{IsLine, set_line}
 use Rattle.set_sum.specs.declared.members.Member.{Member}
-use Rattle.set_sum.specs.declared.parts.Part.{Part}
 
 -- the byte behind a member: LF behind the last one, and a space behind the others
 abbrev pub ending : Bool → ℕ
@@ -39,11 +38,3 @@ AreKept tables lines (Some first) kept = IsFirstWith (λ set. Any (λ m. tables 
 pub record AreReadLines (tables : ℕ) (lines : List (List Member)) (count : ℕ) (missing : Option ℕ) (kept : List (List Member)) : Type 0 where
   pub counted : count ≡ length lines
   pub are_kept : AreKept tables lines missing kept
-
--- the text has these sets, all of whose tables are there; no two members of one have one pattern where one of them is
--- transposed, and no two share a tile
-pub record AreSetsOf (tables : List Part) (text : List ℕ) (sets : List (List Member)) : Type 0 where
-  pub are_sets : AreSets text sets
-  pub there : AllByRecursion (AllByRecursion (λ m. m.table < length tables)) sets
-  pub apart : AllByRecursion (λ set. ¬ NamesTwice tables set) sets
-  pub disjoint : AllByRecursion (λ set. ¬ NamesOverlap tables set) sets

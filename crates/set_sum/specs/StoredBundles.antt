@@ -1,23 +1,18 @@
 -- How a bundle is stored: its tables, for each set its members, and what a walk asks at each move.
-use Rattle.std.specs.Prelude.{◌≡◌, ℕ, ◌*◌, ◌<◌, List, length, map, slice_index}
+use Rattle.std.specs.Prelude.{◌≡◌, ℕ, ◌*◌, ◌<◌, List, length, slice_index}
 use Rattle.std.specs.List.{AllByRecursion}
 use Rattle.puz_board.specs.Transposing.{transposed_cell}
 use Rattle.set_sum.specs.Bundles.{ShownBundle, IsBundle}
 use Rattle.set_sum.specs.Owners.{AreOwners}
 use Rattle.set_sum.specs.Parts.{ShownPart, part_pattern, parts_shown}
 use Rattle.set_sum.specs.declared.bundles.Bundle.TheInside.{Inside}
-use Rattle.set_sum.specs.declared.members.Member.{Member}
-
--- the members of the sets
-abbrev pub sets_stored : Inside → List (List Member)
-sets_stored v = map (λ set. set.items) v.sets.items
 
 -- the bundle with this side, these tables, and these sets
 abbrev pub bundle_shown : Inside → ShownBundle
 bundle_shown v = record {
   side = v.side;
   tables = parts_shown v.tables.items;
-  sets = sets_stored v;
+  sets = v.sets;
 }
 
 -- for each tile of side n the places of its owners are kept

@@ -1,24 +1,24 @@
 //! Bundles of tables, and the sums of their sets.
 
-ghost use Rattle.std.specs.Prelude.{◌≡◌, ◌*◌, ◌<◌, ◌≤◌, Err, IfErr, IfOk, MatchOption, Ok, [], length, map, slice_index_or};
+ghost use Rattle.std.specs.Prelude.{◌≡◌, ◌*◌, ◌<◌, ◌≤◌, Err, IfErr, IfOk, Ok, [], length, map, slice_index_or, take};
 ghost use Rattle.std.specs.List.{AllByRecursion};
 ghost use Rattle.puz_board.specs.Boards.{side_of};
 ghost use Rattle.set_sum.specs.Bounds.{BoundsSolutions};
-ghost use Rattle.set_sum.specs.Bundles.{ShownBundle, IsBundle, BundleSays, most_members};
+ghost use Rattle.set_sum.specs.Bundles.{ShownBundle, IsBundle, BundleSays, most_members, most_tables};
 ghost use Rattle.puz_board.specs.Transposing.{transposed_cell};
 ghost use Rattle.set_sum.specs.Owners.{AreOwners};
-ghost use Rattle.set_sum.specs.Parts.{no_part, part_pattern, part_shown};
-ghost use Rattle.set_sum.specs.ReadLines.{AreSetsOf};
-ghost use Rattle.set_sum.specs.Reading.{AreAlike, IsBundleOf, IsSetFaultOf, IsFirstWith, NamesOverlap, NamesTwice};
+ghost use Rattle.set_sum.specs.OverPatterns.{bundle_with};
+ghost use Rattle.set_sum.specs.Parts.{IsExactPart, no_part, part_pattern, part_shown};
+ghost use Rattle.set_sum.specs.Reading.{IsBundleOf, IsSetFaultOf, first_side};
 ghost use Rattle.set_sum.specs.declared.faults.SetFault.{SetFault};
 
 use crate::faults::SetFault;
-use crate::lines::read_lines;
 use crate::members::Member;
 use crate::owners::{all_owners, all_transposed};
 use crate::parts::Part;
-use crate::tables::{one_side, overlap, sum_of, twice};
-use arrayvec::ArrayVec;
+use crate::set_texts::SetText;
+use crate::tables::sum_of;
+use pat_place::Pattern;
 use puz_board::{Board, Side};
 use std::marker::Model;
 use tab_rule::Count;
@@ -35,9 +35,6 @@ pub(crate) const MOST_CELLS: usize = 25;
 /// The most sets of a bundle.
 pub const MOST_SETS: usize = 16;
 
-/// The members of a set, each before the next.
-pub(crate) type Set = ArrayVec<Member, MOST_MEMBERS>;
-
 /// Checked tables of one side, full or folded, and sets of disjoint members: no tile is in the patterns of two members of a set.
 ///
 /// A move moves one tile, so the counts that the members of a set tell of a board may be added. The sum is an additive and
@@ -46,7 +43,7 @@ pub(crate) type Set = ArrayVec<Member, MOST_MEMBERS>;
 pub struct Bundle<'a> {
     side: Side,
     tables: Vec<Part<'a>>,
-    sets: ArrayVec<Set, MOST_SETS>,
+    sets: SetText,
     /// For each tile the places of the members whose pattern has it.
     owners: [u32; MOST_CELLS],
     /// The transposed cell of each cell.
@@ -115,7 +112,7 @@ impl<'a> Bundle<'a> {
         ensures sets { result ≡ length self.now.sets }
         ensures bundle { IsBundle self.now }
     {
-        self.sets.len() as u8
+        self.sets.count()
     }
 
     /// The members of a set, each before the next: by the numbers of their tables, and of one table first the plain member.
@@ -126,7 +123,7 @@ impl<'a> Bundle<'a> {
             result.now }
         ensures few { length result.now ≤ most_members }
     {
-        self.sets[usize::from(set)].as_slice()
+        self.sets.members(set)
     }
 
     /// The places of the members whose pattern has a tile.
@@ -158,7 +155,7 @@ impl<'a> Bundle<'a> {
     {
         // Asked only for what its contract says.
         let _side = board.side();
-        sum_of(&self.tables, &self.sets[usize::from(set)], board)
+        sum_of(&self.tables, self.sets.members(set), board)
     }
 }
 
@@ -167,8 +164,8 @@ fn make_bundle<'a>(tables: Vec<Part<'a>>, text: &[u8]) -> Result<Bundle<'a>, Set
     ensures ok { IfOk result (λ bundle. IsBundleOf tables.entry.items text.now bundle) }
     ensures err { IfErr result (λ fault. IsSetFaultOf fault tables.entry.items text.now) }
 {
-    let side = one_side(&tables)?;
-    let sets = read_sets(&tables, text)?;
+    let sets = text_over(&tables, text)?;
+    let side = first_side(&tables);
     let owners = all_owners(side, &tables);
     Ok(Bundle {
         side,
@@ -179,62 +176,39 @@ fn make_bundle<'a>(tables: Vec<Part<'a>>, text: &[u8]) -> Result<Bundle<'a>, Set
     })
 }
 
-/// Reads the sets of a set text over tables of one side.
-fn read_sets(tables: &[Part<'_>], text: &[u8]) -> Result<ArrayVec<Set, MOST_SETS>, SetFault>
-    requires { AreAlike tables.now }
-    ensures ok { IfOk result (λ kept.
-        AreSetsOf tables.now text.now (map (λ set. set.items) kept.items)) }
+/// Reads a set text over the patterns of tables.
+fn text_over(tables: &[Part<'_>], text: &[u8]) -> Result<SetText, SetFault>
+    ensures ok { IfOk result (λ sets.
+        IsBundleOf tables.now text.now (bundle_with tables.now sets)
+        × AllByRecursion IsExactPart tables.now) }
     ensures err { IfErr result (λ fault. IsSetFaultOf fault tables.now text.now) }
 {
-    let lines = match read_lines(text, tables.len()) {
-        Ok(lines) => lines,
-        Err(line) => return Err(SetFault::S1(line)),
-    };
-    if lines.count > MOST_SETS {
+    if tables.is_empty() || tables.len() > MOST_TABLES {
         return Err(SetFault::S5);
     }
-    if let Some(line) = lines.missing {
-        return Err(SetFault::S2(line as u8));
-    }
-    if let Some(line) = first_twice(tables, &lines.sets) {
-        return Err(SetFault::S6(line as u8));
-    }
-    if let Some(line) = first_overlap(tables, &lines.sets) {
-        return Err(SetFault::S3(line as u8));
-    }
-    Ok(lines.sets)
+    let patterns = patterns_of(tables);
+    SetText::read(&patterns[..tables.len()], text)
 }
 
-/// The first of some sets two of whose members have one pattern where one of them is transposed.
-fn first_twice(tables: &[Part<'_>], sets: &[Set]) -> Option<usize>
-    requires side { AreAlike tables.now }
-    requires there { AllByRecursion (AllByRecursion (λ member. member.table < length tables.now))
-        (map (λ set. set.items) sets.now) }
-    ensures { MatchOption result
-        (AllByRecursion (λ set. ¬ NamesTwice tables.now set) (map (λ set. set.items) sets.now))
-        (IsFirstWith (NamesTwice tables.now) (map (λ set. set.items) sets.now)) }
+/// The side of the first table.
+fn first_side(tables: &[Part<'_>]) -> Side
+    requires { 0 < length tables.now }
+    ensures { result ≡ first_side tables.now }
 {
-    for (line, set) in sets.iter().enumerate() {
-        if twice(tables, set) {
-            return Some(line);
-        }
-    }
-    None
+    tables[0].pattern().side()
 }
 
-/// The first of some sets two of whose members share a tile.
-fn first_overlap(tables: &[Part<'_>], sets: &[Set]) -> Option<usize>
-    requires side { AreAlike tables.now }
-    requires there { AllByRecursion (AllByRecursion (λ member. member.table < length tables.now))
-        (map (λ set. set.items) sets.now) }
-    ensures { MatchOption result
-        (AllByRecursion (λ set. ¬ NamesOverlap tables.now set) (map (λ set. set.items) sets.now))
-        (IsFirstWith (NamesOverlap tables.now) (map (λ set. set.items) sets.now)) }
+/// The patterns of tables. What stands behind them counts for nothing.
+fn patterns_of(tables: &[Part<'_>]) -> [Pattern; MOST_TABLES]
+    requires some { 0 < length tables.now }
+    requires few { length tables.now ≤ most_tables }
+    ensures room { length result ≡ most_tables }
+    ensures patterns { take (length tables.now) result ≡ map part_pattern tables.now }
+    ensures exact { AllByRecursion IsExactPart tables.now }
 {
-    for (line, set) in sets.iter().enumerate() {
-        if overlap(tables, set) {
-            return Some(line);
-        }
+    let mut patterns = [tables[0].pattern(); MOST_TABLES];
+    for (i, table) in tables.iter().enumerate() {
+        patterns[i] = table.pattern();
     }
-    None
+    patterns
 }

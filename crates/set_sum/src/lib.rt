@@ -13,7 +13,9 @@ mod lines;
 mod members;
 mod owners;
 mod parts;
+mod patterns;
 mod positions;
+mod set_texts;
 mod sums;
 mod tables;
 
@@ -22,5 +24,7 @@ pub use faults::SetFault;
 pub use known::PositionStep;
 pub use members::Member;
 pub use parts::Part;
+pub use patterns::one_side;
 pub use positions::Position;
+pub use set_texts::{SetText, text_fault};
 pub use sums::Sums;

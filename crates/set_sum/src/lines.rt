@@ -6,8 +6,9 @@ ghost use Rattle.set_sum.specs.ReadLines.{AreReadLines, MayFollow, IsReadAsSet, 
 ghost use Rattle.set_sum.specs.SetTexts.{AreLines, IsFirstBadLine, IsLine, member_text, numeral, set_line};
 ghost use Rattle.set_sum.specs.declared.members.Member.{Member};
 
-use crate::bundles::{MOST_SETS, Set};
+use crate::bundles::MOST_SETS;
 use crate::members::Member;
+use crate::set_texts::Set;
 use arrayvec::ArrayVec;
 
 /// The number of one or two digits, without a leading zero, at the front of a text, and the text behind it.

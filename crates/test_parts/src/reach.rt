@@ -4,7 +4,8 @@ use crate::bundles::over_one;
 use crate::finding::board_of;
 use crate::korf_board;
 use crate::same::same;
-use puz_make::{is_out_of_reach, is_solvable};
+use puz_board::is_solvable;
+use puz_make::is_out_of_reach;
 use test_samples::files::TILE_1;
 
 /// Loyd's board, whose tiles 14 and 15 are exchanged: it has no solution (Johnson and Story 1879).

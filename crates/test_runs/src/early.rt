@@ -8,9 +8,7 @@ use pdb_request::{Replay, Request};
 use pdb_verdict::line_of;
 use std::alloc::{AllocError, AllocGlobal, Global};
 use std::process::Abort;
-use std::sync::Wait;
 use std::test::Fail;
-use std::thread::Threads;
 use test_samples::files::{FOURTEEN_BLOCKS, TILE_3, TILES_12, with_byte};
 use test_samples::logs::LEAF;
 use test_samples::{Call, SampleFiles};
@@ -31,10 +29,10 @@ const FILES: [Named<'_>; 5] = [
 const LINE: &str = "refused S2 at line 1";
 
 /// The line of the refusal that the starts of these files tell of a bound over both tables, or an empty text.
-fn told<H: AllocGlobal + Threads + Wait>(rt: &H, files: &SampleFiles) -> Result<String, Fail> {
+fn told<H: AllocGlobal>(rt: &H, files: &SampleFiles) -> Result<String, Fail> {
     let alloc = rt.alloc();
     let asked = bound(alloc, &["t0", "t1"])?;
-    let fault = fault_ahead(&Look { rt, alloc, files }, &asked);
+    let fault = fault_ahead(&Look { alloc, files }, &asked);
     let line = fault.map(|fault| line_of(&Err(fault)));
     let text = line.as_ref().map_or("", |line| line.trim_end());
     Ok(String::from_str(alloc, text)?)
@@ -52,7 +50,7 @@ fn with_others<'a>(alloc: Global, others: &[Named<'a>]) -> Result<Vec<Named<'a>>
 }
 
 /// Ends the test where another line is told where a file has so many zeros behind its front, and nothing is wrong with the set text.
-fn expect_told_of_large<H: AllocGlobal + Threads + Wait + Abort>(
+fn expect_told_of_large<H: AllocGlobal + Abort>(
     rt: &H,
     (name, front): Named<'_>,
     zeros: usize,

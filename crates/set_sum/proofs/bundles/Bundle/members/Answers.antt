@@ -1,18 +1,11 @@
-use Rattle.std.proofs.Common.{◌≡◌, ◌<◌, [], length, get_or, sym, ◌∙◌, ap, subst}
+use Rattle.std.proofs.Common.{◌<◌, [], length, get_or, sym, ◌∙◌, ap, subst}
 use Rattle.std.specs.List.{AllByRecursion}
 use Rattle.set_sum.specs.Bundles.{IsBundle}
-use Rattle.set_sum.specs.StoredBundles.{bundle_shown}
-use Rattle.set_sum.proofs.BundleLemmas.{set_there, stored_set}
+use Rattle.set_sum.proofs.BundleLemmas.{set_there}
 use Rattle.set_sum.proofs.bundles.Bundle.members.Goals as goal
 
 members_are : goal.returns-clause-members
-members_are c =
-    let v = c.self.inside in
-    let low : c.args.set < length (bundle_shown v).sets = subst (λ w. c.args.set < length w.sets) (sym c.self.view_is) c.requires in
-    let is : c.index-deref-from.result ≡ get_or v.sets.items c.args.set c.index-deref-from.result = c.index-deref-from.is
-    ∙ ap (λ s. get_or s c.from.result c.index-deref-from.result) c.deref.ensures.0
-    ∙ ap (λ k. get_or v.sets.items k c.index-deref-from.result) c.from.ensures in
-    c.as_slice.ensures.value ∙ sym (stored_set v c.args.set low c.index-deref-from.result is) ∙ ap (λ w. get_or w.sets c.args.set []) c.self.view_is
+members_are c = c.members.ensures.members ∙ ap (λ w. get_or w.sets c.args.set []) c.self.view_is
 
 -- the members of a set that are answered are those that the bundle shows
 pub returns-clause-members : goal.returns-clause-members

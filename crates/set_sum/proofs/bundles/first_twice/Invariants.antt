@@ -1,8 +1,0 @@
-use Rattle.std.proofs.Common.{map, take}
-use Rattle.std.specs.List.{AllByRecursion}
-use Rattle.set_sum.specs.Reading.{NamesTwice}
-use Rattle.set_sum.proofs.bundles.first_twice.Given as goal
-
--- no two members of the sets so far have one pattern where one of them is transposed
-abbrev pub invariant-loop-line : goal.invariant-loop-line
-invariant-loop-line l = AllByRecursion (λ set. ¬ NamesTwice l.tables set) (take l.line (map (λ set. set.items) l.sets))
