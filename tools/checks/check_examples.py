@@ -29,12 +29,12 @@ def is_of_tests(crate):
 
 
 def sentences():
-    """The rows of docs/FORMATS.md that the sentences of the source make: an arm has a code, and then the pieces of a sentence."""
+    """The rows of docs/FORMATS.md that the sentences of the source make: an arm has a code, and then a sentence with its numbers."""
     source = (ROOT / "crates/pdb_reason/src/texts.rt").read_text()
     for arm in re.split(r"\n +(?=\w+::[A-Z]\d\b|\w+::\w+\(\w+::[A-Z]\d\b)", source)[1:]:
         code = re.search(r"::([A-Z]\d)\b", arm)[1]
-        pieces = re.findall(r'"([^"]*)"', arm)
-        yield f"| {code} | {pieces[0]}{''.join(number + piece for number, piece in zip('NM', pieces[1:]))} |"
+        first, *others = re.split(r"\{\w+\}", re.search(r'"([^"]*)"', arm)[1])
+        yield f"| {code} | {first}{''.join(number + piece for number, piece in zip('NM', others))} |"
     for text in re.findall(r'const \w+: &str =\s*"([^"]*)"', source):
         yield f"| {text} |"
 

@@ -56,16 +56,14 @@ fn beginning_of(rt: &HostRuntime, name: &str) -> io::Result<Beginning> {
     Ok(Beginning::of(&bytes[..count]))
 }
 
-/// Tells on standard error why a run ended without a yes, and the bound below which its last searches ended without a solution; or
-/// why it will end so. What can't be told is left out.
+/// Tells on standard error why a run ended without a yes, or why it will end so. What can't be told is left out.
 fn tell_reason<'n>(
     rt: &HostRuntime,
     asked: &Request<'n>,
     why: Cause<'n, Fault>,
-    ended: Option<u8>,
     is_ahead: bool,
 ) -> io::Result<()> {
-    let Some(reason) = Reason::of(asked, why, ended) else {
+    let Some(reason) = Reason::of(asked, why) else {
         return Ok(());
     };
     let reason = reason.on_shelf(asked, &DiskShelf::new(rt));
@@ -107,15 +105,12 @@ fn main(rt: HostRuntime) -> ExitCode {
         Ok(all) => Ok(ReadArguments::of(rt.alloc(), all.as_slice())),
         Err(fault) => Err(*fault),
     };
-    let asked = match &read {
-        Ok(read) => read.asked.as_ref(),
-        Err(_) => None,
-    };
+    let asked = read.as_ref().ok().and_then(|read| read.asked.as_ref());
     if let Some(asked) = asked
         && let Some(fault) = fault_before(&rt, rt.alloc(), asked)
     {
         // The run goes on, whether this is told or not.
-        let _ = tell_reason(&rt, asked, Cause::Refused(fault), None, true);
+        let _ = tell_reason(&rt, asked, Cause::Refused(fault), true);
     }
     let gate = Watch::asked_for(&rt, files_to_tell(&rt, asked));
     let call = ProgramCall {
@@ -124,15 +119,12 @@ fn main(rt: HostRuntime) -> ExitCode {
             alloc: rt.alloc(),
             gate: &gate,
         },
-        arguments: match &read {
-            Ok(read) => Ok(read),
-            Err(fault) => Err(*fault),
-        },
+        arguments: read.as_ref().map_err(|fault| *fault),
     };
     let ended = start(call, &mut shelf, &mut reader, &mut out, &mut err);
     if let (Some(asked), Some(why)) = (asked, ended.why) {
         // Nobody is left to be told that standard error failed.
-        let _ = tell_reason(&rt, asked, why, gate.ended_below(), false);
+        let _ = tell_reason(&rt, asked, why, false);
     }
     ExitCode::from(ended.status.code())
 }

@@ -61,7 +61,7 @@ module _ (fold : Bool) (budget : ℕ) (text sets : Bytes) (files : List Bytes) (
   -- what gives up over a bundle of the board's side is why no log is made
   pub given_up : (are_for : AreForBoard fold board sets files) (why : Fault) → IsGivenUp are_for.bundle board budget why
       → IsCauseForSearch fold budget text sets files why
-  given_up are_for fault.K1 is = record { board = board; spelt = spelt; unmade = record { are_for = are_for; spent = is } }
+  given_up are_for (fault.K1 told) is = record { board = board; spelt = spelt; unmade = record { are_for = are_for; spent = is } }
   given_up are_for fault.K2 is = record { board = board; spelt = spelt; unmade = record { are_for = are_for; out_of_reach = is } }
   given_up are_for fault.K5 is = record { board = board; spelt = spelt; unmade = record { are_for = are_for; too_long = is } }
   given_up are_for fault.Memory is = (board, spelt, bundle_taken fold files sets are_for.bundle are_for.is_bundle)

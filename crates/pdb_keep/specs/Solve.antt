@@ -2,7 +2,7 @@
 --
 -- The maker is free: it may find any moves and any log, or give up. What is told of them, whether the log is kept, and why it may
 -- give up, is not free.
-use Rattle.std.specs.Prelude.{◌≡◌, ◌≢◌, ℕ, Bool, List, [], ◌∷◌, ◌++◌, Some, Ok, Err, codes, map, true}
+use Rattle.std.specs.Prelude.{◌≡◌, ◌≢◌, ℕ, Bool, List, [], ◌∷◌, ◌++◌, Option, Some, Ok, Err, codes, map, true}
 use Rattle.puz_board.specs.BoardTexts.{Spells, board_of_text}
 use Rattle.puz_board.specs.Boards.{side_of}
 use Rattle.puz_board.specs.MovesTexts.{moves_of}
@@ -39,10 +39,10 @@ pub record IsOutOfReachOf (fold : Bool) (board : List ℕ) (sets : Bytes) (table
   pub are_for : AreForBoard fold board sets tables
   pub out_of_reach : IsOutOfReach are_for.bundle board
 
--- they do, and a search over it spends the budget
-pub record IsSpentOver (fold : Bool) (budget : ℕ) (board : List ℕ) (sets : Bytes) (tables : List Bytes) : Type 0 where
+-- they do, and a search over it spends the budget, with this told of the bound that it proves
+pub record IsSpentOver (fold : Bool) (budget : ℕ) (board : List ℕ) (sets : Bytes) (tables : List Bytes) (told : Option ℕ) : Type 0 where
   pub are_for : AreForBoard fold board sets tables
-  pub spent : IsSpent are_for.bundle board budget
+  pub spent : IsSpent are_for.bundle board budget told
 
 -- they do, and the log of a search over it may be too long
 pub record IsTooLongOver (fold : Bool) (board : List ℕ) (sets : Bytes) (tables : List Bytes) : Type 0 where
@@ -65,7 +65,7 @@ pub record AreForAnotherSide (fold : Bool) (board : List ℕ) (sets : Bytes) (ta
 -- behind them K2 for a board that is out of reach, K1 where the search spends the budget, and K5 where its log may be too long
 abbrev pub IsUnmadeFor : Bool → ℕ → List ℕ → Bytes → List Bytes → Fault → Type 0
 IsUnmadeFor fold budget board sets tables (fault.Log L4) = AreForAnotherSide fold board sets tables
-IsUnmadeFor fold budget board sets tables fault.K1 = IsSpentOver fold budget board sets tables
+IsUnmadeFor fold budget board sets tables (fault.K1 told) = IsSpentOver fold budget board sets tables told
 IsUnmadeFor fold budget board sets tables fault.K2 = IsOutOfReachOf fold board sets tables
 IsUnmadeFor fold budget board sets tables fault.K5 = IsTooLongOver fold board sets tables
 IsUnmadeFor fold budget board sets tables refused = AreRefused fold tables sets refused

@@ -26,7 +26,7 @@ IsCauseForSearch fold budget text sets tables cause = IsCauseBy (IsUnmade fold b
 
 -- a search of a board may give up for this: its budget is spent, the board is out of reach, or the log may be too long
 abbrev pub IsGivenUp : ShownBundle → List ℕ → ℕ → Fault → Type 0
-IsGivenUp v b budget fault.K1 = IsSpent v b budget
+IsGivenUp v b budget (fault.K1 told) = IsSpent v b budget told
 IsGivenUp v b budget fault.K2 = IsOutOfReach v b
 IsGivenUp v b budget fault.K5 = IsTooLong v b
 IsGivenUp v b budget fault.Memory = ⊤

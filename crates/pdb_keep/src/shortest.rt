@@ -82,7 +82,7 @@ fn deepen<H: Threads + Sync, G: Gate + Sync>(
                     boards,
                 }));
             }
-            SearchAnswer::Spent => return Err(Fault::K1),
+            SearchAnswer::Spent => return Err(Fault::K1(Some(count))),
         }
     }
     Ok(None)

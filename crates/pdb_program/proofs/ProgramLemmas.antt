@@ -165,11 +165,3 @@ runs_on words old new old_err new_err number status is ends refuses tells same =
       kept = λ parses zero. yes_keeps (asked_of words) old new (answered true parses zero);
       same = same;
     }
-
--- so is a run of what these words ask for
-pub asked_runs : (words : List Bytes) (asked : Asked) (old new : World) (old_err new_err : Option Bytes) (status : Status) → Parses words
-    → asked ≡ asked_of words → EndsFor asked old new status → TellsFor asked old old_err new_err status
-    → ((plan_of asked).keeps_under ≡ None → new.files ≡ old.files) → RunsOn words old new old_err new_err (status_number status)
-asked_runs words asked old new old_err new_err status parses is ends tells same =
-    runs_on words old new old_err new_err (status_number status) status refl (λ _. rw is at ends) (λ fails. absurd (fails parses)) (λ _. rw is at tells)
-    (λ keeps. same (rw is (keeps parses)))

@@ -15,18 +15,18 @@ ghost use Rattle.pdb_words.specs.CommandLine.{Parses, asked_of};
 ghost use Rattle.pdb_words.specs.Faults.{unreadable_word};
 ghost use Rattle.pdb_program.specs.Headline.{Headline};
 ghost use Rattle.pdb_program.specs.PartLines.{ArePartLinesTrue};
-ghost use Rattle.pdb_program.specs.Programs.{RunsOn};
-ghost use Rattle.pdb_program.specs.Refusals.{AppendsWholeOrFront};
+ghost use Rattle.pdb_program.specs.Programs.{AskToKeepNothing, EndsFor, RunsOn, TellsFor};
+ghost use Rattle.pdb_program.specs.Refusals.{AppendsWholeOrFront, Refuses};
 
-use crate::arguments::words_in;
-use crate::hosts::{ArgumentFault, ProgramCall};
+use crate::arguments::{ReadArguments, words_in};
+use crate::hosts::{ArgumentFault, ProgramCall, RunHost};
 use crate::programs::{answer, answer_to};
 use crate::refusals::tell;
 use byte_io::shelf::Shelf;
 use byte_io::sinks::Sink;
 use byte_io::sources::Source;
 use byte_io::streams::put_text;
-use pdb_run::{BorrowedIo, Cause, Ended, NO_MEMORY};
+use pdb_run::{BorrowedIo, Cause, Ended, Io, NO_MEMORY};
 use pdb_verdict::Fault;
 use pdb_words::unreadable_word;
 use std::io::Write;
@@ -36,7 +36,6 @@ use work_run::Gate;
 
 /// A run on the arguments behind the first, which is the program's own name, or what is said where they can't be taken:
 /// for want of memory, or since one is no UTF-8 text, which is named by its place. Then the shelf and the reader stay as they are.
-/// Where the words among them were read they aren't read again.
 pub fn start<'n, H: Threads + Wait + Sync, S: Shelf, R: Source, W: Sink, E: Write, G: Gate + Sync>(
     call: ProgramCall<'_, 'n, '_, H, G>,
     shelf: &mut S,
@@ -83,12 +82,36 @@ pub fn start<'n, H: Threads + Wait + Sync, S: Shelf, R: Source, W: Sink, E: Writ
     match arguments {
         Ok(read) => {
             let mut io = BorrowedIo { shelf, reader, out };
-            match &read.asked {
-                Some(request) => answer_to(&host, request, &mut io, err),
-                None => answer(&host, words_in(read.all), &mut io, err),
-            }
+            answer_read(&host, read, &mut io, err)
         }
         Err(fault) => without_words(fault, out, err),
+    }
+}
+
+/// Does what the words among these arguments ask for. Where they were read they aren't read again.
+fn answer_read<'n, H: Threads + Wait + Sync, I: Io, E: Write, G: Gate + Sync>(
+    host: &RunHost<'_, H, G>,
+    read: &ReadArguments<'n>,
+    io: &mut I,
+    err: &mut E,
+) -> Ended<'n, Fault>
+    ensures caused { HasItsStatus result }
+    ensures same_streams { I.streams io.new ≡ I.streams io.old }
+    ensures ends { let words = drop 1 (map string_bytes read.now.all.now) in Parses words
+        → EndsFor (asked_of words) (I.world io.old) (I.world io.new) result.status }
+    ensures refuses { let words = drop 1 (map string_bytes read.now.all.now) in
+        let old = I.world io.old in let new = I.world io.new in (Parses words → ⊥)
+        → Refuses words old.written new.written
+        (E.contents err.old) (E.contents err.new) result.status }
+    ensures tells { let words = drop 1 (map string_bytes read.now.all.now) in
+        let old_err = E.contents err.old in let new_err = E.contents err.new in
+        Parses words → TellsFor (asked_of words) (I.world io.old) old_err new_err result.status }
+    ensures same { AskToKeepNothing (drop 1 (map string_bytes read.now.all.now))
+        → (I.world io.new).files ≡ (I.world io.old).files }
+{
+    match &read.asked {
+        Some(request) => answer_to(host, request, io, err),
+        None => answer(host, words_in(read.all), io, err),
     }
 }
 

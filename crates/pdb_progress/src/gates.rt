@@ -1,6 +1,5 @@
 //! Gates that tell how far a check or the maker of a table has come, and how fast a search goes.
 
-use crate::bounds::Bounds;
 use crate::files::FileShare;
 use crate::makings::{Stage, TableProgress};
 use crate::paces::Pace;
@@ -180,13 +179,11 @@ impl<R: Clock + Eprint> Gate for Progress<'_, '_, R> {
     }
 }
 
-/// The gate of the program: it holds nobody. It keeps in mind how far the searches for a claim came.
+/// The gate of the program: it holds nobody.
 #[derive(Drop)]
 pub struct Watch<'a, 'n, R> {
     /// What tells how far the work has come, where that is asked for.
     progress: Option<Progress<'a, 'n, R>>,
-    /// The bounds of the searches for the last claim, or of all searches where nothing is claimed.
-    bounds: Bounds,
 }
 
 impl<'a, 'n, R: Env + Clock + Eprint> Watch<'a, 'n, R> {
@@ -198,18 +195,7 @@ impl<'a, 'n, R: Env + Clock + Eprint> Watch<'a, 'n, R> {
         } else {
             None
         };
-        Watch {
-            progress,
-            bounds: Bounds::new(),
-        }
-    }
-}
-
-impl<R> Watch<'_, '_, R> {
-    /// The greatest bound below which a search for the last claim has ended without a solution, and a search below a greater one
-    /// has begun. None where there is none, or the gate wasn't told.
-    pub fn ended_below(&self) -> Option<u8> {
-        self.bounds.ended()
+        Watch { progress }
     }
 }
 
@@ -227,14 +213,12 @@ impl<R: Clock + Eprint> Gate for Watch<'_, '_, R> {
     }
 
     fn asks(&self, claim: u64) {
-        self.bounds.clear();
         if let Some(progress) = &self.progress {
             progress.asks(claim);
         }
     }
 
     fn searches(&self, bound: u8) {
-        self.bounds.begin(bound);
         if let Some(progress) = &self.progress {
             progress.searches(bound);
         }

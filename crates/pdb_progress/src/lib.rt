@@ -1,7 +1,6 @@
 //! How far a check or a maker has come, and how fast a search goes, told on standard error while they run.
 #![tactic(auto)]
 
-mod bounds;
 mod files;
 mod gates;
 mod makings;

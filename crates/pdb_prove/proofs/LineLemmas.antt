@@ -69,7 +69,7 @@ fault_line (fault.O1 solution bound) = (
   (codes "refused O1 solution " ++ decimal solution) ++ (codes " bound " ++ decimal bound),
   twice (codes "refused O1 solution ") (codes " bound ") solution bound,
 )
-fault_line fault.K1 = (codes "refused K1", refl)
+fault_line (fault.K1 bound) = (codes "refused K1", refl)
 fault_line fault.K2 = (codes "refused K2", refl)
 fault_line fault.K3 = (codes "refused K3", refl)
 fault_line fault.K4 = (codes "refused K4", refl)

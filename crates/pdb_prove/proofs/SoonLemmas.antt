@@ -26,20 +26,20 @@ module _ (guide : ShownGuide) (few budget : ℕ) (less : few ≤ budget) where
       → IsFoundOf guide budget b asks found
   soon_enough b claims.shortest (Shortest n letters) settled is = is
   soon_enough b claims.shortest (Refused K2) settled is = elim is [ inl odd ↦ inl odd | inr beyond ↦ inr beyond ]
-  soon_enough b claims.shortest (Refused K1) settled is = absurd (spent_not settled)
+  soon_enough b claims.shortest (Refused (K1 bound)) settled is = absurd (spent_not settled)
   soon_enough b (claims.moves text) (Optimum n) settled is = (is.0, is.1, refuted_within b n is.2)
   soon_enough b (claims.moves text) (Shorter letters) settled is = is
   soon_enough b (claims.moves text) (Refused K2) settled is = (is.0, is.1, is.2, refuted_within b (min is.0 255) is.3)
-  soon_enough b (claims.moves text) (Refused K1) settled is = absurd (spent_not settled)
+  soon_enough b (claims.moves text) (Refused (K1 bound)) settled is = absurd (spent_not settled)
   soon_enough b (claims.moves text) (Refused _) settled is = is
   soon_enough b (claims.bound r) Bound settled is = refuted_within b r is
   soon_enough b (claims.bound r) (Shorter letters) settled is = is
   soon_enough b (claims.bound r) (Refused K2) settled is = is
-  soon_enough b (claims.bound r) (Refused K1) settled is = absurd (spent_not settled)
+  soon_enough b (claims.bound r) (Refused (K1 bound)) settled is = absurd (spent_not settled)
   soon_enough b (claims.part r p) Part settled is = part_within b r p is
   soon_enough b (claims.part r p) (Shorter letters) settled is = is
   soon_enough b (claims.part r p) (Refused K2) settled is = is
-  soon_enough b (claims.part r p) (Refused K1) settled is = absurd (spent_not settled)
+  soon_enough b (claims.part r p) (Refused (K1 bound)) settled is = absurd (spent_not settled)
   soon_enough b asks _ settled is = is
 
 -- the same by a guide of the bundle

@@ -28,11 +28,12 @@ module _ (guide : ShownGuide) (budget : ℕ) where
   abbrev pub IsRefuted : List ℕ → ℕ → Type 0
   IsRefuted b r = (boards : ℕ) × IsAnswer guide b r budget (search.Refuted boards)
 
-  -- for a board alone: a shortest solution; K1 where the budget is spent; K2 where the order of the numbers hasn't the blank's
-  -- parity, or no solution has fewer than 254 moves
+  -- for a board alone: a shortest solution; K1 where the budget is spent, with the bound that is proved before, if it is told; K2
+  -- where the order of the numbers hasn't the blank's parity, or no solution has fewer than 254 moves
   abbrev pub IsShortestFor : List ℕ → Finding → Type 0
   IsShortestFor b (Shortest n letters) = Solves b letters.items n × IsBounded b n
-  IsShortestFor b (Refused K1) = (bound : ℕ) × IsDeepened guide b budget (deepened.Spent bound)
+  IsShortestFor b (Refused (K1 None)) = (bound : ℕ) × IsDeepened guide b budget (deepened.Spent bound)
+  IsShortestFor b (Refused (K1 (Some bound))) = IsDeepened guide b budget (deepened.Spent bound)
   IsShortestFor b (Refused K2) = (¬ HasTheBlanksParity b) ⊎ IsDeepened guide b budget deepened.Beyond
   IsShortestFor b _ = ⊥
 
@@ -44,7 +45,7 @@ module _ (guide : ShownGuide) (budget : ℕ) where
   IsOptimumFor b moves (Shorter letters) =
       (n : ℕ) × Solves b moves n × IsAnswer guide b (min n 255) budget (search.Solved letters)
   IsOptimumFor b moves (Refused (Moves refused)) = replay_of b moves ≡ Err refused
-  IsOptimumFor b moves (Refused K1) = (n : ℕ) × Solves b moves n × IsAnswerInTurn guide None b (min n 255) budget search.Spent
+  IsOptimumFor b moves (Refused (K1 None)) = (n : ℕ) × Solves b moves n × IsAnswerInTurn guide None b (min n 255) budget search.Spent
   IsOptimumFor b moves (Refused K2) = (n : ℕ) × Solves b moves n × (255 < n) × IsRefuted b (min n 255)
   IsOptimumFor b moves _ = ⊥
 
@@ -53,7 +54,7 @@ module _ (guide : ShownGuide) (budget : ℕ) where
   abbrev pub IsBoundFor : List ℕ → ℕ → Finding → Type 0
   IsBoundFor b r Bound = IsRefuted b r
   IsBoundFor b r (Shorter letters) = IsAnswer guide b r budget (search.Solved letters)
-  IsBoundFor b r (Refused K1) = IsAnswerInTurn guide None b r budget search.Spent
+  IsBoundFor b r (Refused (K1 None)) = IsAnswerInTurn guide None b r budget search.Spent
   IsBoundFor b r (Refused K2) = ¬ HasTheBlanksParity b
   IsBoundFor b r _ = ⊥
 
@@ -66,7 +67,7 @@ module _ (guide : ShownGuide) (budget : ℕ) where
   abbrev pub IsPartFor : List ℕ → ℕ → ShownPart → Finding → Type 0
   IsPartFor b r p Part = IsRefutedPart b r p
   IsPartFor b r p (Shorter letters) = IsAnswerOfPart guide p b r budget (search.Solved letters)
-  IsPartFor b r p (Refused K1) = IsAnswerInTurn guide (Some p) b r budget search.Spent
+  IsPartFor b r p (Refused (K1 None)) = IsAnswerInTurn guide (Some p) b r budget search.Spent
   IsPartFor b r p (Refused K2) = ¬ HasTheBlanksParity b
   IsPartFor b r p _ = ⊥
 

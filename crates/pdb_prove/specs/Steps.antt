@@ -72,7 +72,7 @@ IsAskedOf claim question = IsQuestionOf claim.board claim.asks question
 
 -- what is found is that the budget is spent
 abbrev pub is_spent : Finding → Bool
-is_spent (Refused fault.K1) = true
+is_spent (Refused (fault.K1 bound)) = true
 is_spent _ = false
 
 -- ---- the claims of a batch

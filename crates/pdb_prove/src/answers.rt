@@ -53,7 +53,7 @@ impl Finding {
     pub(crate) fn is_spent(&self) -> bool
         ensures { result ≡ is_spent self.now }
     {
-        matches!(self, Finding::Refused(Fault::K1))
+        matches!(self, Finding::Refused(Fault::K1(_)))
     }
 }
 
@@ -79,9 +79,11 @@ fn answer_alone(guide: &Guide<'_>, posed: Posed<'_>, budget: u64) -> Finding
 {
     let start = posed.start;
     match asked_of(posed.claim) {
-        Ok(Question::Shortest) => {
-            found_shortest(&posed.claim.board, shortest_alone(guide, start, budget))
-        }
+        Ok(Question::Shortest) => match shortest_alone(guide, start, budget) {
+            // So few boards prove no bound that is worth telling.
+            Deepened::Spent(_) => Finding::Refused(Fault::K1(None)),
+            deepened => found_shortest(&posed.claim.board, deepened),
+        },
         Ok(Question::Moves(count)) => {
             let bound = PartBound::whole(bound_of(count));
             found_moves(count, refute_by_thresholds_alone(guide, start, &bound, budget))
@@ -174,7 +176,7 @@ fn found_shortest(board: &Board, deepened: Deepened) -> Finding
             Ok(count) => Finding::Shortest(count, letters),
             Err(_) => unreachable!(),
         },
-        Deepened::Spent(_) => Finding::Refused(Fault::K1),
+        Deepened::Spent(bound) => Finding::Refused(Fault::K1(Some(bound))),
         Deepened::Beyond => Finding::Refused(Fault::K2),
     }
 }
@@ -189,7 +191,7 @@ fn found_moves(count: u16, answer: SearchAnswer) -> Finding
         SearchAnswer::Refuted(_) if count <= 255 => Finding::Optimum(count),
         SearchAnswer::Refuted(_) => Finding::Refused(Fault::K2),
         SearchAnswer::Solved(letters) => Finding::Shorter(letters),
-        SearchAnswer::Spent => Finding::Refused(Fault::K1),
+        SearchAnswer::Spent => Finding::Refused(Fault::K1(None)),
     }
 }
 
@@ -201,7 +203,7 @@ fn found_bound(answer: SearchAnswer) -> Finding
     match answer {
         SearchAnswer::Refuted(_) => Finding::Bound,
         SearchAnswer::Solved(letters) => Finding::Shorter(letters),
-        SearchAnswer::Spent => Finding::Refused(Fault::K1),
+        SearchAnswer::Spent => Finding::Refused(Fault::K1(None)),
     }
 }
 
@@ -213,6 +215,6 @@ fn found_part(answer: SearchAnswer) -> Finding
     match answer {
         SearchAnswer::Refuted(_) => Finding::Part,
         SearchAnswer::Solved(letters) => Finding::Shorter(letters),
-        SearchAnswer::Spent => Finding::Refused(Fault::K1),
+        SearchAnswer::Spent => Finding::Refused(Fault::K1(None)),
     }
 }

@@ -2,12 +2,14 @@
 
 use crate::beginnings::Beginning;
 use crate::outs::spared_text;
-use crate::texts::{NO_MEMORY, Subject, TOO_LONG, Text, UNKEPT, UNREAD, WRONG, text_of};
+use crate::texts::{ended_below, write_cause};
 use byte_io::shelf::Shelf;
 use pdb_progress::ShownName;
 use pdb_request::Request;
 use pdb_run::Cause;
 use pdb_verdict::Fault;
+use puz_board::MoveFault;
+use set_sum::SetFault;
 use std::fmt;
 use std::fmt::{Display, Formatter};
 
@@ -23,35 +25,44 @@ enum Named<'a> {
     Nothing,
 }
 
+/// What the sentence of a refusal speaks of.
+#[derive(Clone, Copy, Debug, PartialEq, Eq)]
+enum Subject {
+    /// The board text, or the puzzle text that has the board.
+    Board,
+    /// The same, and where the board's numbers belong.
+    Goal,
+    /// The table with this number.
+    Table(usize),
+    Sets,
+    Log,
+    Claims,
+    /// The run as a whole.
+    Run,
+}
+
 /// Why a run ended without a yes. It is shown as a sentence, which names the file that it speaks of.
 #[derive(Clone, Copy, Debug, PartialEq, Eq)]
 pub struct Reason<'a> {
-    subject: Subject,
+    why: Cause<'a, Fault>,
     name: Named<'a>,
-    text: Text,
-    /// The greatest bound below which searches ended without a solution before the budget was spent, where that is known.
-    ended: Option<u8>,
+    /// Why nothing is kept, where what is there is spared.
+    spared: Option<&'static str>,
     beginning: Beginning,
     /// Whether the run has still to end.
     is_ahead: bool,
 }
 
 impl<'a> Reason<'a> {
-    /// Why the run that does what was asked ended without a yes, where a sentence tells it. Of an answer to a claim it is told only
-    /// where it says more than its line: that the budget is spent, and how far the searches came. `ended` is the greatest bound below
-    /// which the last searches ended without a solution, where there is one.
-    pub fn of(asked: &Request<'a>, why: Cause<'a, Fault>, ended: Option<u8>) -> Option<Reason<'a>> {
-        let (subject, name, text) = match why {
-            Cause::Refused(Fault::K1) => return spent(asked, ended),
-            Cause::Refused(fault) => return refusal(asked, fault),
-            Cause::Unread(name) => (Subject::Run, file_or_input(name), UNREAD),
-            Cause::TooLong(name) => (Subject::Run, file_or_input(name), TOO_LONG),
-            Cause::Unkept(name) => (Subject::Out, Named::File(name), UNKEPT),
-            Cause::MadeWrong => (Subject::Run, Named::Nothing, WRONG),
-            Cause::NoMemory => (Subject::Run, Named::Nothing, NO_MEMORY),
-            Cause::Unwritten | Cause::Words | Cause::Open => return None,
-        };
-        Some(told(subject, name, Text::Plain(text)))
+    /// Why the run that does what was asked ended without a yes, where a sentence tells it.
+    pub fn of(asked: &Request<'a>, why: Cause<'a, Fault>) -> Option<Reason<'a>> {
+        Some(Reason {
+            why,
+            name: named_for(asked, why)?,
+            spared: None,
+            beginning: Beginning::OfAny,
+            is_ahead: false,
+        })
     }
 
     /// The file that it speaks of, if that is one with a name.
@@ -65,9 +76,9 @@ impl<'a> Reason<'a> {
     /// The same, of a run that did what was asked on this shelf: where nothing could be kept, since what is there is spared, that is
     /// told.
     pub fn on_shelf<S: Shelf>(self, asked: &Request<'_>, shelf: &S) -> Reason<'a> {
-        match (self.subject, spared_text(asked, shelf)) {
-            (Subject::Out, Some(text)) => Reason {
-                text: Text::Plain(text),
+        match self.why {
+            Cause::Unkept(_) => Reason {
+                spared: spared_text(asked, shelf),
                 ..self
             },
             _ => self,
@@ -76,15 +87,23 @@ impl<'a> Reason<'a> {
 
     /// The same, where that file begins so. What is said of that is left out where it is no surprise.
     pub fn beginning(self, beginning: Beginning) -> Reason<'a> {
-        let beginning = match (self.subject, beginning) {
-            (Subject::Run | Subject::Out, _) => Beginning::OfAny,
-            (Subject::Table(_), Beginning::OfTable) => Beginning::OfAny,
-            (Subject::Log, Beginning::OfLog) => Beginning::OfAny,
+        let beginning = match (self.subject(), beginning) {
+            (Subject::Run, _)
+            | (Subject::Table(_), Beginning::OfTable)
+            | (Subject::Log, Beginning::OfLog) => Beginning::OfAny,
             (Subject::Goal, Beginning::OfBoardWithBlankLast) => beginning,
             (_, Beginning::OfBoardWithBlankLast) => Beginning::OfAny,
             _ => beginning,
         };
         Reason { beginning, ..self }
+    }
+
+    /// What it speaks of.
+    fn subject(&self) -> Subject {
+        match self.why {
+            Cause::Refused(fault) => subject_of(fault),
+            _ => Subject::Run,
+        }
     }
 
     /// The same, told before the run ends.
@@ -110,56 +129,50 @@ impl Display for Reason<'_> {
             Named::LastClaim => f.write_str("the last claim: ")?,
             Named::Nothing => {}
         }
-        match self.text {
-            Text::Plain(a) => f.write_str(a)?,
-            Text::One(a, first, b) => write!(f, "{a}{first}{b}")?,
-            Text::Two(a, first, b, second, c) => write!(f, "{a}{first}{b}{second}{c}")?,
-        }
-        if let Some(bound) = self.ended {
-            write!(
-                f,
-                ". The searches that ended found no solution of fewer than {bound} moves"
-            )?;
+        match self.spared {
+            Some(text) => f.write_str(text)?,
+            None => write_cause(f, &self.why)?,
         }
         f.write_str(self.beginning.text())
     }
 }
 
-/// A reason of a file that begins as any does.
-fn told(subject: Subject, name: Named<'_>, text: Text) -> Reason<'_> {
-    Reason {
-        subject,
-        name,
-        text,
-        ended: None,
-        beginning: Beginning::OfAny,
-        is_ahead: false,
+/// What the sentence of a cause names, where there is a sentence.
+fn named_for<'a>(asked: &Request<'a>, why: Cause<'a, Fault>) -> Option<Named<'a>> {
+    match why {
+        Cause::Unread(name) | Cause::TooLong(name) => Some(file_or_input(name)),
+        Cause::Unkept(name) => Some(Named::File(name)),
+        Cause::MadeWrong | Cause::NoMemory => Some(Named::Nothing),
+        Cause::Refused(fault) => named_for_refusal(asked, fault),
+        Cause::Unwritten | Cause::Words | Cause::Open => None,
     }
 }
 
-/// Why a run was refused whose budget is spent, and how far its searches came. Of the last claim of `prove` this is told where it is
-/// known how far.
-fn spent<'a>(asked: &Request<'a>, ended: Option<u8>) -> Option<Reason<'a>> {
-    let name = match (asked, ended) {
-        (Request::Prove(_), None) => return None,
-        (Request::Prove(_), Some(_)) => Named::LastClaim,
-        _ => Named::Nothing,
-    };
-    let (subject, text) = text_of(Fault::K1);
-    let reason = told(subject, name, text);
-    Some(Reason { ended, ..reason })
+/// What the sentence of a refusal names. What `prove` answers to a claim has the claim in its line, and a sentence besides only
+/// where this says more: how far the searches for the last claim came.
+fn named_for_refusal<'a>(asked: &Request<'a>, fault: Fault) -> Option<Named<'a>> {
+    match (asked, fault, subject_of(fault)) {
+        (Request::Prove(_), Fault::K1(bound), _) => ended_below(bound).map(|_| Named::LastClaim),
+        (Request::Prove(_), _, Subject::Goal | Subject::Run) => None,
+        (_, _, subject) => Some(name_of(asked, subject)),
+    }
 }
 
-/// Why a run was refused. What `prove` answers to a claim has the claim in its line, and no reason besides.
-fn refusal<'a>(asked: &Request<'a>, fault: Fault) -> Option<Reason<'a>> {
-    let (subject, text) = text_of(fault);
-    if matches!(
-        (asked, subject),
-        (Request::Prove(_), Subject::Goal | Subject::Run)
-    ) {
-        return None;
+/// What the sentence of a refusal speaks of.
+fn subject_of(fault: Fault) -> Subject {
+    match fault {
+        Fault::P1 | Fault::Board(_) | Fault::Moves(MoveFault::M1(_) | MoveFault::M3) => {
+            Subject::Board
+        }
+        Fault::Moves(MoveFault::M2(_) | MoveFault::M4) | Fault::K2 => Subject::Goal,
+        Fault::Table(_) => Subject::Table(0),
+        Fault::TableOf(number, _) => Subject::Table(number),
+        Fault::Sets(SetFault::S4(number)) => Subject::Table(usize::from(number)),
+        Fault::Sets(_) => Subject::Sets,
+        Fault::Log(_) | Fault::O1 { .. } => Subject::Log,
+        Fault::Q1(_) | Fault::Q2(_) => Subject::Claims,
+        Fault::K1(_) | Fault::K3 | Fault::K4 | Fault::K5 | Fault::Memory => Subject::Run,
     }
-    Some(told(subject, name_of(asked, subject), text))
 }
 
 /// The table with this number.

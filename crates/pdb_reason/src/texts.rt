@@ -1,21 +1,22 @@
-//! What each refusal means. docs/FORMATS.md shows these sentences.
+//! What each cause means, in a sentence. docs/FORMATS.md shows these sentences.
 
-use Subject::{Board, Claims, Goal, Log, Run, Sets, Table};
-use Text::{One, Plain, Two};
 use log_check::LogRefusal;
 use log_file::FormFault;
+use pdb_run::Cause;
 use pdb_verdict::Fault;
 use puz_board::{BoardFault, MoveFault};
 use set_sum::SetFault;
+use std::fmt;
+use std::fmt::Formatter;
 use tab_file::HeadFault;
 use tab_rule::TableRefusal;
 
 /// What is said where a maker's work is wrong.
-pub(crate) const WRONG: &str =
+const WRONG: &str =
     "what the program made is wrong, as its own check found, and is not kept: please report this";
 
 /// What is said where memory is wanted.
-pub(crate) const NO_MEMORY: &str = "the system refused memory, so there is no verdict";
+const NO_MEMORY: &str = "the system refused memory, so there is no verdict";
 
 /// What is said where a log would take the place of a file that the run reads.
 pub(crate) const OUT_IS_READ: &str =
@@ -30,131 +31,93 @@ pub(crate) const OUT_IS_LOG: &str =
     "a log is there, or what can't be read, so no table takes its place: `--replace` allows that";
 
 /// What is said where an input can't be read.
-pub(crate) const UNREAD: &str =
-    "it can't be read: is it there, is it no folder, and may you read it?";
+const UNREAD: &str = "it can't be read: is it there, is it no folder, and may you read it?";
 
 /// What is said where an input is too large.
-pub(crate) const TOO_LONG: &str = "it has more bytes than such a file may have";
+const TOO_LONG: &str = "it has more bytes than such a file may have";
 
 /// What is said where nothing can be kept.
-pub(crate) const UNKEPT: &str =
+const UNKEPT: &str =
     "nothing can be kept there: does its folder exist, may you write there, and is there room?";
 
-/// What a sentence speaks of.
-#[derive(Clone, Copy, Debug, PartialEq, Eq)]
-pub(crate) enum Subject {
-    /// The board text, or the puzzle text that has the board.
-    Board,
-    /// The same, and where the board's numbers belong.
-    Goal,
-    /// The table with this number.
-    Table(usize),
-    Sets,
-    Log,
-    Claims,
-    /// What is to be kept, where that fails.
-    Out,
-    /// The run as a whole.
-    Run,
+/// Writes what a cause means. There is nothing to say where the output failed, and where lines or the words' mistake say it.
+pub(crate) fn write_cause<W: fmt::Write>(
+    f: &mut Formatter<W>,
+    why: &Cause<'_, Fault>,
+) -> fmt::Result {
+    match why {
+        Cause::Unread(_) => f.write_str(UNREAD),
+        Cause::TooLong(_) => f.write_str(TOO_LONG),
+        Cause::Unkept(_) => f.write_str(UNKEPT),
+        Cause::MadeWrong => f.write_str(WRONG),
+        Cause::NoMemory => f.write_str(NO_MEMORY),
+        Cause::Refused(fault) => write_fault(f, *fault),
+        Cause::Unwritten | Cause::Words | Cause::Open => Ok(()),
+    }
 }
 
-/// A sentence, with its numbers in it.
-#[derive(Clone, Copy, Debug, PartialEq, Eq)]
-pub(crate) enum Text {
-    Plain(&'static str),
-    One(&'static str, u64, &'static str),
-    Two(&'static str, u64, &'static str, u64, &'static str),
-}
-
-/// What a fault speaks of, and what it means.
-pub(crate) fn text_of(fault: Fault) -> (Subject, Text) {
+/// Writes what a refusal means.
+fn write_fault<W: fmt::Write>(f: &mut Formatter<W>, fault: Fault) -> fmt::Result {
     match fault {
-        Fault::P1 => (
-            Board,
-            Plain("there is no `;` between a board and its moves"),
+        Fault::P1 => f.write_str("there is no `;` between a board and its moves"),
+        Fault::Board(refused) => write_board_fault(f, refused),
+        Fault::Moves(refused) => write_moves_fault(f, refused),
+        Fault::Table(refused) | Fault::TableOf(_, refused) => write_table_fault(f, refused),
+        Fault::Sets(refused) => write_sets_fault(f, refused),
+        Fault::Log(refused) => write_log_fault(f, refused),
+        Fault::O1 { solution, bound } => write!(
+            f,
+            "the solution has {solution} moves, and the log proves that none has fewer than {bound}"
         ),
-        Fault::Board(refused) => (Board, board_text(refused)),
-        Fault::Moves(refused) => moves_text(refused),
-        Fault::Table(refused) => (Table(0), table_text(refused)),
-        Fault::TableOf(number, refused) => (Table(number), table_text(refused)),
-        Fault::Sets(refused) => sets_text(refused),
-        Fault::Log(refused) => (Log, log_text(refused)),
-        Fault::O1 { solution, bound } => (
-            Log,
-            Two(
-                "the solution has ",
-                solution as u64,
-                " moves, and the log proves that none has fewer than ",
-                bound as u64,
-                "",
-            ),
-        ),
-        other => claim_text(other),
+        other => write_search_fault(f, other),
     }
 }
 
 /// Of boards.
-fn board_text(refused: BoardFault) -> Text {
+fn write_board_fault<W: fmt::Write>(f: &mut Formatter<W>, refused: BoardFault) -> fmt::Result {
     match refused {
-        BoardFault::B1(place) => One(
-            "byte ",
-            place as u64,
-            " of the board is no digit, space, tab or line end",
+        BoardFault::B1(place) => write!(
+            f,
+            "byte {place} of the board is no digit, space, tab or line end"
         ),
-        BoardFault::B2(place) => One(
-            "three or more digits stand in a row, from byte ",
-            place as u64,
-            " on",
+        BoardFault::B2(place) => write!(
+            f,
+            "three or more digits stand in a row, from byte {place} on"
         ),
-        BoardFault::B3(count) => One(
-            "the board has ",
-            count as u64,
-            " numbers, where 4, 9, 16 or 25 are wanted",
+        BoardFault::B3(count) => write!(
+            f,
+            "the board has {count} numbers, where 4, 9, 16 or 25 are wanted"
         ),
-        BoardFault::B4(number) => One(
-            "number ",
-            number as u64,
-            " of the board is too great for that many cells",
+        BoardFault::B4(index) => write!(
+            f,
+            "number {index} of the board is too great for that many cells"
         ),
-        BoardFault::B5(number) => One("number ", number as u64, " of the board stands there twice"),
+        BoardFault::B5(index) => write!(f, "number {index} of the board stands there twice"),
     }
 }
 
 /// Of moves.
-fn moves_text(refused: MoveFault) -> (Subject, Text) {
+fn write_moves_fault<W: fmt::Write>(f: &mut Formatter<W>, refused: MoveFault) -> fmt::Result {
     match refused {
-        MoveFault::M1(place) => (
-            Board,
-            One(
-                "byte ",
-                place as u64,
-                " behind the `;` is none of U, D, L, R, space, tab and line end",
-            ),
+        MoveFault::M1(place) => write!(
+            f,
+            "byte {place} behind the `;` is none of U, D, L, R, space, tab and line end"
         ),
-        MoveFault::M2(step) => (
-            Goal,
-            One(
-                "the move at step ",
-                step as u64,
-                " takes the blank off the board",
-            ),
-        ),
-        MoveFault::M3 => (Board, Plain("there are more than 1000 moves")),
-        MoveFault::M4 => (
-            Goal,
-            Plain("the moves don't end on the goal board, which has each number in its own cell"),
+        MoveFault::M2(step) => write!(f, "the move at step {step} takes the blank off the board"),
+        MoveFault::M3 => f.write_str("there are more than 1000 moves"),
+        MoveFault::M4 => f.write_str(
+            "the moves don't end on the goal board, which has each number in its own cell",
         ),
     }
 }
 
 /// Of table files.
-fn table_text(refused: TableRefusal) -> Text {
+fn write_table_fault<W: fmt::Write>(f: &mut Formatter<W>, refused: TableRefusal) -> fmt::Result {
     match refused {
-        TableRefusal::Head(refused) => Plain(head_text(refused)),
-        TableRefusal::T7(entry) => One(
-            "the table is wrong: entry ",
-            entry,
-            " doesn't fit those one move away",
+        TableRefusal::Head(refused) => f.write_str(head_text(refused)),
+        TableRefusal::T7(entry) => write!(
+            f,
+            "the table is wrong: entry {entry} doesn't fit those one move away"
         ),
     }
 }
@@ -174,102 +137,90 @@ fn head_text(refused: HeadFault) -> &'static str {
 }
 
 /// Of set texts, and of tables that make no sets.
-fn sets_text(refused: SetFault) -> (Subject, Text) {
-    let text = match refused {
-        SetFault::S1(line) => One(
-            "line ",
-            line as u64,
-            " isn't `set` and ascending numbers of tables, one space before each, with a line end and no CR",
-        ),
-        SetFault::S2(line) => One(
-            "line ",
-            line as u64,
-            " names a table that isn't there: they are numbered from 0",
-        ),
-        SetFault::S3(line) => One(
-            "line ",
-            line as u64,
-            " has two tables with a tile in common",
-        ),
-        SetFault::S4(table) => {
-            let text = One("table ", table as u64, " is of another side than table 0");
-            return (Table(usize::from(table)), text);
-        }
-        SetFault::S5 => Plain("there may be 1 to 16 tables, and 1 to 16 lines"),
-        SetFault::S6(line) => One(
-            "line ",
-            line as u64,
-            " has two tables of the same tiles, one of them transposed",
-        ),
-    };
-    (Sets, text)
-}
-
-/// Of log files.
-fn log_text(refused: LogRefusal) -> Text {
+fn write_sets_fault<W: fmt::Write>(f: &mut Formatter<W>, refused: SetFault) -> fmt::Result {
     match refused {
-        LogRefusal::Form(FormFault::L1) => Plain(
-            "a log file begins with `PDBL`, a version, a side and a number of lemmas",
+        SetFault::S1(line) => write!(
+            f,
+            "line {line} isn't `set` and ascending numbers of tables, one space before each, with a line end and no CR"
         ),
-        LogRefusal::Form(FormFault::L2(lemma)) => One(
-            "lemma ",
-            lemma as u64,
-            " is cut short, or bytes are left over behind the last one",
+        SetFault::S2(line) => write!(
+            f,
+            "line {line} names a table that isn't there: they are numbered from 0"
         ),
-        LogRefusal::Form(FormFault::L3(lemma)) => {
-            One("the board of lemma ", lemma as u64, " is no board")
-        }
-        LogRefusal::L4 => Plain("board, tables and log aren't all of one side"),
-        LogRefusal::L5 => Plain("the log is one of another board"),
-        LogRefusal::L6(lemma) => One(
-            "lemma ",
-            lemma as u64,
-            " doesn't hold over these sets and tables",
+        SetFault::S3(line) => write!(f, "line {line} has two tables with a tile in common"),
+        SetFault::S4(table) => write!(f, "table {table} is of another side than table 0"),
+        SetFault::S5 => f.write_str("there may be 1 to 16 tables, and 1 to 16 lines"),
+        SetFault::S6(line) => write!(
+            f,
+            "line {line} has two tables of the same tiles, one of them transposed"
         ),
     }
 }
 
-/// Of makers and of claims.
-fn claim_text(fault: Fault) -> (Subject, Text) {
+/// Of log files.
+fn write_log_fault<W: fmt::Write>(f: &mut Formatter<W>, refused: LogRefusal) -> fmt::Result {
+    match refused {
+        LogRefusal::Form(FormFault::L1) => f.write_str(
+            "a log file begins with `PDBL`, a version, a side and a number of lemmas",
+        ),
+        LogRefusal::Form(FormFault::L2(lemma)) => write!(
+            f,
+            "lemma {lemma} is cut short, or bytes are left over behind the last one"
+        ),
+        LogRefusal::Form(FormFault::L3(lemma)) => {
+            write!(f, "the board of lemma {lemma} is no board")
+        }
+        LogRefusal::L4 => f.write_str("board, tables and log aren't all of one side"),
+        LogRefusal::L5 => f.write_str("the log is one of another board"),
+        LogRefusal::L6(lemma) => write!(f, "lemma {lemma} doesn't hold over these sets and tables"),
+    }
+}
+
+/// Of searches, makers and claims.
+fn write_search_fault<W: fmt::Write>(f: &mut Formatter<W>, fault: Fault) -> fmt::Result {
     match fault {
-        Fault::K1 => (
-            Run,
-            Plain("the budget of boards is spent: `--budget N` allows more"),
+        Fault::K1(bound) => {
+            f.write_str("the budget of boards is spent: `--budget N` allows more")?;
+            write_ended(f, bound)
+        }
+        Fault::K2 => f.write_str("the board has no solution, or none of fewer than 255 moves"),
+        Fault::K3 => f.write_str(
+            "a count of the table would pass 253, the most that a table holds",
         ),
-        Fault::K2 => (
-            Goal,
-            Plain("the board has no solution, or none of fewer than 255 moves"),
+        Fault::K4 => f.write_str(
+            "SIDE and MASK are no pattern: 1 to 3 tiles on side 2, to 8 on sides 3 and 4, to 6 on side 5, and none that isn't on the board",
         ),
-        Fault::K3 => (
-            Run,
-            Plain("a count of the table would pass 253, the most that a table holds"),
+        Fault::K5 => {
+            f.write_str("the log would have more than 2^30 bytes, the most that a log may have")
+        }
+        Fault::Q1(line) => write!(
+            f,
+            "line {line} is none of `BOARD`, `BOARD ; MOVES`, `BOARD : N` and `BOARD : N part I/K`"
         ),
-        Fault::K4 => (
-            Run,
-            Plain(
-                "SIDE and MASK are no pattern: 1 to 3 tiles on side 2, to 8 on sides 3 and 4, to 6 on side 5, and none that isn't on the board",
-            ),
+        Fault::Q2(line) => write!(
+            f,
+            "the board of line {line} is of another side than the tables"
         ),
-        Fault::K5 => (
-            Run,
-            Plain("the log would have more than 2^30 bytes, the most that a log may have"),
+        _ => f.write_str(NO_MEMORY),
+    }
+}
+
+/// Of the searches before the one that spent the budget.
+fn write_ended<W: fmt::Write>(f: &mut Formatter<W>, bound: Option<u8>) -> fmt::Result {
+    match ended_below(bound) {
+        Some(ended) => write!(
+            f,
+            ". The searches that ended found no solution of fewer than {ended} moves"
         ),
-        Fault::Q1(line) => (
-            Claims,
-            One(
-                "line ",
-                line as u64,
-                " is none of `BOARD`, `BOARD ; MOVES`, `BOARD : N` and `BOARD : N part I/K`",
-            ),
-        ),
-        Fault::Q2(line) => (
-            Claims,
-            One(
-                "the board of line ",
-                line as u64,
-                " is of another side than the tables",
-            ),
-        ),
-        _ => (Run, Plain(NO_MEMORY)),
+        None => Ok(()),
+    }
+}
+
+/// The threshold below which the last search ended, where this bound is proved: all solutions have one parity, so that search proves
+/// one more than its threshold. None where no search has ended.
+pub(crate) fn ended_below(bound: Option<u8>) -> Option<u8> {
+    match bound? {
+        0 | 1 => None,
+        bound => Some(bound - 1),
     }
 }

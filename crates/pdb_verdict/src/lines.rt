@@ -69,7 +69,7 @@ fn fault_line(fault: &Fault) -> AnswerLines
                 *bound as u64,
             )
         }
-        Fault::K1 => lines(&["refused K1\n"]),
+        Fault::K1(_) => lines(&["refused K1\n"]),
         Fault::K2 => lines(&["refused K2\n"]),
         Fault::K3 => lines(&["refused K3\n"]),
         Fault::K4 => lines(&["refused K4\n"]),

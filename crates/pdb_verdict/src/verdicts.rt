@@ -53,9 +53,10 @@ pub enum Fault {
     /// The moves are a solution, and more than the bound that the log proves.
     #[error("the solution has {solution} moves, and the bound is {bound}")]
     O1 { solution: u16, bound: u8 },
-    /// The search has expanded as many boards as it may.
+    /// The search has expanded as many boards as it may. The greatest bound that it has proved before, where it tells one: no
+    /// solution of the board has fewer moves.
     #[error("the budget of boards is spent")]
-    K1,
+    K1(Option<u8>),
     /// The board has no solution, as the parity of its numbers or a set says, or the next threshold of the search would be
     /// above 255.
     #[error("the board has no solution, or none that a log could prove shortest")]

@@ -185,34 +185,6 @@ fn a_table_that_is_made_is_told_and_then_its_check(rt: HostRuntime) -> Result<()
     Ok(())
 }
 
-/// The bound of each search, and that of the one that has ended before it without a solution.
-const SEARCHES: [(u8, Option<u8>); 7] = [
-    (5, None),
-    (7, Some(5)),
-    (9, Some(7)),
-    (1, None),
-    (3, Some(1)),
-    (3, None),
-    (255, Some(3)),
-];
-
-#[test]
-fn the_bound_is_kept_below_which_the_last_searches_ended(rt: HostRuntime) {
-    for value in [None, Some(b"1".as_slice())] {
-        let mut stage = new_stage(&rt);
-        stage.value = value;
-        let gate = gate_of(&rt, &stage);
-        for (bound, ended) in SEARCHES {
-            gate.searches(bound);
-            gate.expanded(1);
-            same_for(&rt, &gate.ended_below(), &ended, &bound);
-        }
-        gate.asks(0);
-        gate.searches(255);
-        same(&rt, &gate.ended_below(), &None);
-    }
-}
-
 #[test]
 fn workers_together_tell_once(rt: HostRuntime) -> Result<(), Fail> {
     for workers in [1, 2, 7] {

@@ -21,19 +21,27 @@ fn a_reason_has_its_sentence(rt: HostRuntime) -> Result<(), Fail> {
             Cause::Refused(Fault::TableOf(1, TableRefusal::Head(HeadFault::T2))),
             "t1: a table file begins with `PDBT` and a byte 1. It begins as a log does: is a word left out before it?",
         ),
+        (
+            Cause::Refused(Fault::K1(Some(1))),
+            "the budget of boards is spent: `--budget N` allows more",
+        ),
+        (
+            Cause::Refused(Fault::K1(Some(2))),
+            "the budget of boards is spent: `--budget N` allows more. The searches that ended found no solution of fewer than 1 moves",
+        ),
         (Cause::MadeWrong, wrong),
         (Cause::Unwritten, ""),
         (Cause::Open, ""),
     ];
     for (why, wanted) in cases {
-        let told = match Reason::of(&asked, why, None) {
+        let told = match Reason::of(&asked, why) {
             Some(reason) => format!(in rt.alloc(); "{}", reason.beginning(Beginning::OfLog))?,
             None => String::from_str(rt.alloc(), "pdb_cli: ")?,
         };
         let told = told.strip_prefix("pdb_cli: ");
         same_for(&rt, &told, &Some(wanted), &why);
     }
-    let reason = Reason::of(&asked, Cause::Refused(Fault::Sets(SetFault::S1(0))), None);
+    let reason = Reason::of(&asked, Cause::Refused(Fault::Sets(SetFault::S1(0))));
     let name = reason.and_then(|reason| reason.name());
     same(&rt, &name, &Some("sets"));
     Ok(())
@@ -43,7 +51,7 @@ fn a_reason_has_its_sentence(rt: HostRuntime) -> Result<(), Fail> {
 fn a_file_that_is_spared_is_named(rt: HostRuntime) -> Result<(), Fail> {
     let asked = search(rt.alloc())?;
     let shelf = MemShelf::of(rt.alloc(), &[("out", b"PDBT\x01 ..")])?;
-    let reason = Reason::of(&asked, Cause::Unkept("out"), None).ok_or("a reason")?;
+    let reason = Reason::of(&asked, Cause::Unkept("out")).ok_or("a reason")?;
     let told = format!(in rt.alloc(); "{}", reason.on_shelf(&asked, &shelf).ahead())?;
     let wanted =
         "pdb_cli: this run can't end in a yes: out: a table is there, or what can't be read, so no log takes its place: `--replace` allows that";

@@ -1,4 +1,4 @@
-use Rattle.std.proofs.Common.{arith}
+use Rattle.std.proofs.Common.{Some, ap, arith}
 use Rattle.pdb_keep.proofs.ThresholdLemmas.{within_first, within_long, within_next, within_spent}
 use Rattle.pdb_keep.proofs.shortest.deepen.Goals as goal
 
@@ -27,4 +27,4 @@ returns-in-Spent-clause-given_up g c =
     let is = rw c.in-Spent.is at c.refute.ensures.answer in
     let spent = within_spent c.args.guide.now c.args.start.now.board c.args.budget c.loop-count.left c.loop-count.count before
     is.0 is.1 is.2 in
-    (before.thresholds, rw c.requires.guide at spent)
+    (before.thresholds, ap Some before.reached, rw c.requires.guide at spent)
