@@ -32,10 +32,12 @@ BUILD = ROOT / "tools" / "build" / "build.sh"
 RUN = "pdb_program::programs::run"
 CLAUSE = RUN + ".headline"
 HEADLINE = "pdb_program::Headline::Headline"
-# What a log has to be, and what true answers are, is set apart: of the headline the lines on `solve` and `parts` alone cite it.
+# What a log has to be, and when a part of a bound holds, is set apart: of the headline the lines on `solve`, and those on `parts` and on
+# parts, alone cite it.
 LOG = "pdb_verdict::Bound::IsProvedBound"
 ANSWERS = "pdb_parts::Laws::AreTrueAnswers"
-MOST_DEFINITIONS, MOST_LINES = 90, 300
+PART = "pdb_program::Headline::HoldsOfPart"
+MOST_DEFINITIONS, MOST_LINES = 90, 320
 
 WORD = re.compile(r"[^\s(){}\[\],;.]+(?:\.[^\s(){}\[\],;.]+)*")
 START = re.compile(
@@ -231,6 +233,11 @@ def behind(statement, *apart):
     return {definition for definition in behind_with_clap(statement, *apart) if definition.crate != "clap"}
 
 
+def behind_headline():
+    """The definitions behind the headline, without those that are set apart."""
+    return behind(HEADLINE, *roots_of(LOG), *roots_of(ANSWERS), *roots_of(PART))
+
+
 def size(definitions):
     return len(definitions), sum(len(d.lines) for d in definitions)
 
@@ -309,15 +316,15 @@ def clause_text(function_file, function):
 
 
 def check_page(page):
-    headline = behind(HEADLINE, *roots_of(LOG), *roots_of(ANSWERS))
+    headline = behind_headline()
     log = behind(LOG) - headline
-    answers = behind(ANSWERS) - headline
+    answers = (behind(ANSWERS) | behind(PART)) - headline
     clause = behind(CLAUSE)
     words = clause - headline - log - answers
     for row, definitions in (
         ("the headline", headline),
         ("a log that proves a bound", log),
-        ("answers that are true", answers),
+        ("parts that hold", answers),
         ("what words ask for", words),
         ("the clause, all of it", clause),
         ("all clauses of `run`", behind(RUN)),
@@ -325,7 +332,7 @@ def check_page(page):
         yield f"the row of {row}: {size(definitions)}", "\n| {} | {} | {} |\n".format(row, *size(definitions)) in page
     yield from check_section(page, "The headline", headline)
     yield from check_section(page, "A log that proves a bound", log)
-    yield from check_section(page, "Answers that are true", answers)
+    yield from check_section(page, "Parts that hold", answers)
     yield from check_section(page, "What words ask for", words)
     if (KIT / "clap").exists():
         clap = behind_with_clap(CLAUSE) - clause
@@ -352,7 +359,7 @@ def check_verdict(page, script):
 
 def check_readme(page):
     yield "README.md: the clause is quoted", quoted(page, clause_text("programs", "run"))
-    headline, clause = behind(HEADLINE, *roots_of(LOG), *roots_of(ANSWERS)), behind(CLAUSE)
+    headline, clause = behind_headline(), behind(CLAUSE)
     counts = f"the {len(clause)} short definitions behind it in order: {len(headline)} of them say"
     yield f"README.md: {counts}", counts in page
 

@@ -175,7 +175,7 @@ check 'the help of prove speaks of claims, their answers, no log, and the status
     'Status: 0 yes, 1 refused, 2 bad words or a fault of a read, a write or a maker, 3 no memory.'
 run parts --help
 check 'the help of parts speaks of answer lines, the bound, open claims, and the statuses' told 'ANSWERS are files of lines' \
-    'part I/K of bound N of BOARD' 'bound N of BOARD from K parts' 'BOARD : N part I/K' \
+    'part I/K of bound N of BOARD' 'joined bound N of BOARD from K parts, by lines that were read' 'BOARD : N part I/K' \
     'Status: 0 yes, 1 refused, 2 bad words or a fault of a read, a write or a maker, 3 no memory.'
 for words in --version -V '--version table' '-V --help'; do
     # shellcheck disable=SC2086
@@ -695,47 +695,83 @@ proves part_claims one_set F12 1 'refused K1 of 3 2 1 0 : 6 part 0/3' 'refused K
 
 "$program" prove part_claims one_set F12 >part_lines
 "$program" prove other_part_claims one_set F12 >other_part_lines
-# The two digests that prove wrote are of no part, nor is any of the nine other lines.
-skipped='2 of 5'
-expect 'what prove wrote of all parts' 0 'bound 6 of 3 2 1 0 from 3 parts' : parts board 6 3 part_lines
+"$program" prove part_claims one_set F12 --budget 1 >spent_lines
+all_of_3='joined bound 6 of 3 2 1 0 from 3 parts, by lines that were read'
+joins 'what prove wrote of all parts' "$all_of_3" board 6 3 part_lines
+# Of the others, digests aside, none is of these parts.
 input=board
-skipped='11 of 14'
-expect 'parts of a board on standard input' 0 'bound 6 of 3 2 1 0 from 3 parts' : parts - 6 3 other_part_lines part_lines
+skipped='7 of 14'
+joins 'parts of a board on standard input' "$all_of_3" - 6 3 other_part_lines part_lines
 input=/dev/null
-skipped='14 of 14'
+skipped='10 of 14'
 expect 'parts of another bound' 1 '3 2 1 0 : 5 part 0/1' : parts board 5 1 part_lines other_part_lines
 expect 'parts of another count' 1 '3 2 1 0 : 6 part 0/1' : parts board 6 1 part_lines other_part_lines
-skipped='5 of 5'
+skipped='3 of 5'
 expect 'parts of another board' 1 '0 1 2 3 : 6 part 0/3' '0 1 2 3 : 6 part 1/3' '0 1 2 3 : 6 part 2/3' : \
     parts <(echo '0 1 2 3') 6 3 part_lines
+skipped=
 grep -v '^part 1/3 ' part_lines >lines_without_1
-skipped='2 of 4'
 expect 'a part that is left out' 1 '3 2 1 0 : 6 part 1/3' : parts board 6 3 lines_without_1
 "$program" parts board 6 3 lines_without_1 >open_claims 2>/dev/null
 printf 'part 1/3 of bound 6 of 3 2 1 0' >cut_line
 expect 'a last line that is cut' 1 '3 2 1 0 : 6 part 1/3' : parts board 6 3 lines_without_1 cut_line
 echo >>cut_line
-skipped='2 of 5'
-expect 'the same line, whole' 0 'bound 6 of 3 2 1 0 from 3 parts' : parts board 6 3 lines_without_1 cut_line
-skipped='4 of 9'
+joins 'the same line, whole' "$all_of_3" board 6 3 lines_without_1 cut_line
+skipped='2 of 9'
 printf '%s\n' 'part 01/3 of bound 6 of 3 2 1 0' $'part 1/3 of bound 6 of 3 2 1 0\r' >malformed_lines
-expect 'malformed lines, and a part that is told twice' 0 'bound 6 of 3 2 1 0 from 3 parts' : \
-    parts board 6 3 malformed_lines part_lines cut_line cut_line
+joins 'malformed lines, and a part that is told twice' "$all_of_3" board 6 3 malformed_lines part_lines cut_line cut_line
 skipped=
 proves open_claims one_set F12 0 'part 1/3 of bound 6 of 3 2 1 0' :
 grep '^part ' part_lines >parts_alone
-expect 'lines of which each is of a part' 0 'bound 6 of 3 2 1 0 from 3 parts' : parts board 6 3 parts_alone
+joins 'lines of which each is of a part' "$all_of_3" board 6 3 parts_alone
 expect 'no lines' 1 '3 2 1 0 : 6 part 0/1' : parts board 6 1 /dev/null
+
+# A budget that ended the search of a part leaves it open, unless another line says that it holds.
+ended='3 of 3'
+expect 'parts that a budget ended' 1 '3 2 1 0 : 6 part 0/3' '3 2 1 0 : 6 part 1/3' '3 2 1 0 : 6 part 2/3' : parts board 6 3 spent_lines
+ended='1 of 3'
+expect 'a part that a budget ended' 1 '3 2 1 0 : 6 part 1/3' : parts board 6 3 spent_lines lines_without_1
+ended=
+joins 'parts that a budget ended at first' "$all_of_3" board 6 3 spent_lines part_lines
+skipped='6 of 9'
+expect 'a part of a board without a solution' 1 '0 1 3 2 : 0 part 0/1' : parts <(echo '0 1 3 2') 0 1 other_part_lines
+skipped=
+
+# Moves that show one part to be false show that of the bound, if they are fewer: they are replayed.
+is_false='refused O2 by ULDRUL of 3 2 1 0 : 7'
+expect 'a part that is refuted' 1 "$is_false" : parts board 7 1 other_part_lines
+expect 'a part of many that is refuted' 1 "$is_false" : parts board 7 65 other_part_lines
+expect 'a part that is refuted by no moves at all' 1 'refused O2 by of 0 1 2 3 : 1' : parts <(echo '0 1 2 3') 1 63 other_part_lines
+echo 'part 0/1 of bound 7 of 3 2 1 0' >false_line
+expect 'a part that is refuted, and told to hold' 1 "$is_false" : parts board 7 1 false_line other_part_lines
+joins 'a false part that is told to hold' 'joined bound 7 of 3 2 1 0 from 1 parts, by lines that were read' board 7 1 false_line
+printf '%s\n' 'refused O2 by L U R D L U of 3 2 1 0 : 7 part 0/1' 'refused O2 by ULDRUL of 3 2 1 0 : 7 part 0/1' >refuted_lines
+expect 'the first of two refutations' 1 'refused O2 by LURDLU of 3 2 1 0 : 7' : parts board 7 1 refuted_lines
+skipped='1 of 1'
+for moves in ULDRU ULDRUX ULDRULLR UU ''; do
+    echo "refused O2 by${moves:+ }$moves of 3 2 1 0 : 7 part 0/1" >moves_line
+    expect "the moves $moves, which refute nothing" 1 '3 2 1 0 : 7 part 0/1' : parts board 7 1 moves_line
+done
+echo 'refused O2 by ULDRUL of 3 2 1 0 : 6 part 0/1' >moves_line
+expect 'as many moves as the bound' 1 '3 2 1 0 : 6 part 0/1' : parts board 6 1 moves_line
+for claim in '3 2 1 0 : 7 part 1/1' '3 2 1 0 : 7 part 0/3' '3 2 1 0 : 8 part 0/1' '3 2 1 0 : 7' '3 2 1 0 : 7 part 0/1 ' \
+    '3 2 1 0 : 7 part 00/1' '3 2 1 0 ; ULDRUL'; do
+    echo "refused O2 by ULDRUL of $claim" >moves_line
+    expect "moves that refute '$claim'" 1 '3 2 1 0 : 7 part 0/1' : parts board 7 1 moves_line
+done
+skipped=
+
 expect 'parts of a text that is no board' 1 'refused B3 count 0' : parts /dev/null 6 3 part_lines
 expect 'parts of a board that is not there' 2 'fault read B' : parts B 6 3 part_lines
 expect 'answers that are not there' 2 'fault read A' : parts board 6 3 part_lines A
+expect 'answers that are not there, behind a refutation' 2 'fault read A' : parts board 7 1 other_part_lines A
 truncate -s 67108865 long_answers
 expect 'answers over their limit' 2 'fault size long_answers' : parts board 6 3 part_lines long_answers
 truncate -s 67108864 long_answers
-skipped='2 of 5'
-expect 'answers of as many bytes as they may have' 0 'bound 6 of 3 2 1 0 from 3 parts' : parts board 6 3 long_answers part_lines
-skipped=
+joins 'answers of as many bytes as they may have' "$all_of_3" board 6 3 long_answers part_lines
 rm long_answers
+# With a foreign line behind them.
+echo x | tee -a part_lines >>lines_without_1
 for answers in part_lines lines_without_1; do
     status=0
     "$program" parts board 6 3 "$answers" 2>"$work/errors" >/dev/full || status=$?
@@ -746,7 +782,8 @@ done
 status=0
 "$program" parts board 6 3 part_lines 2>/dev/full >"$work/output" || status=$?
 : >"$work/errors"
-check 'lines that are skipped, on a full standard error' wrote 0 'bound 6 of 3 2 1 0 from 3 parts'
+digest=$(sha256sum <part_lines)
+check 'lines that are skipped, on a full standard error' wrote 0 "sha256 ${digest%% *}" "$all_of_3"
 
 #
 # Inputs of a claim that are not there, or too long.
@@ -809,7 +846,7 @@ limit_memory solve board one_set made F12 --fold
 limit_memory prove true_claims one_set F12 --workers 7
 limit_memory prove false_claims one_set F12 --workers 64 --fold
 limit_memory prove part_claims one_set F12 --workers 7
-skipped='5 of 5'
+skipped='4 of 6'
 limit_memory parts board 6 65535 part_lines
 skipped=
 rm -f made
@@ -920,7 +957,7 @@ limit_stack prove true_claims one_set F12 F12 F12 F12 F12 F12 F12 F12 --workers 
 limit_stack prove hard_claim one_set three_of_side_3 --workers 64
 sixteen_of_side_3=("${nine_of_side_3[@]}" "${nine_of_side_3[@]:2}")
 limit_stack prove hard_claims sets_of_nine "${sixteen_of_side_3[@]}" --workers 64
-skipped='5 of 5'
+skipped='4 of 6'
 limit_stack parts board 6 65535 part_lines
 skipped=
 rm -f made hard_claim hard_claims

@@ -242,7 +242,7 @@ for ((part = 0; part < 25; part++)); do
     line "answers_$part" "part $part/25 of bound 6 of 3 2 1 0"
     answers+=("answers_$part")
 done
-expect 'a bound from 25 files' 0 'bound 6 of 3 2 1 0 from 25 parts' : parts board_of_2 6 25 "${answers[@]}"
+joins 'a bound from 25 files' 'joined bound 6 of 3 2 1 0 from 25 parts, by lines that were read' board_of_2 6 25 "${answers[@]}"
 line answers_24 'part 3/25 of bound 6 of 3 2 1 0'
 expect 'a bound from 25 files, of which two tell the same part' 1 '3 2 1 0 : 6 part 24/25' : parts board_of_2 6 25 "${answers[@]}"
 

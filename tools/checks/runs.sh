@@ -24,8 +24,9 @@ cd "$work/files" || exit 2
 passed=0
 failed=0
 input=/dev/null
-# How many lines a run of `parts` skips, as `1 of 5`, where it skips any.
+# How many lines a run of `parts` skips, as `1 of 5`, where it skips any; and of how many open parts a budget ended the search.
 skipped=
+ended=
 
 # Runs the program with these words, and keeps what it writes and its status.
 run() {
@@ -47,13 +48,17 @@ check() {
 }
 
 # Whether standard error has nothing, or, where the answer was no yes, one sentence that says why; and before that, of an answer for
-# which lines are skipped, the line that says how many.
+# which lines are skipped or a budget ended searches, the lines that say of how many.
 told_at_most_why() {
-    local besides=$work/errors
-    if [ -n "$skipped" ] && [ "$status" -lt 2 ]; then
-        [ "$(head -n 1 "$work/errors")" = "pdb_cli: lines that tell of no part of this bound, and were skipped: $skipped" ] || return
+    local besides=$work/errors lines=()
+    if [ "$status" -lt 2 ]; then
+        [ -z "$skipped" ] || lines+=("pdb_cli: lines that tell of no part of this bound, and were skipped: $skipped")
+        [ -z "$ended" ] || lines+=("pdb_cli: parts that are open since a budget ended their search: $ended")
+    fi
+    if [ "${#lines[@]}" != 0 ]; then
+        head -n "${#lines[@]}" "$work/errors" | cmp -s - <(printf '%s\n' "${lines[@]}") || return
         besides=$work/besides
-        tail -n +2 "$work/errors" >"$besides"
+        tail -n +$((${#lines[@]} + 1)) "$work/errors" >"$besides"
     fi
     [ ! -s "$besides" ] || { [ "$status" != 0 ] && [ "$(sed 's/^pdb_cli: .*/sentence/' "$besides")" = sentence ]; }
 }
@@ -76,6 +81,17 @@ expect() {
     shift
     run "$@"
     check "$name" wrote "$wanted" "${lines[@]}"
+}
+
+# Answers must be joined by their digests and this line: joins NAME LINE BOARD N K ANSWERS..
+joins() {
+    local name=$1 line=$2 lines=() file digest
+    shift 2
+    for file in "${@:4}"; do
+        digest=$(sha256sum <"$file")
+        lines+=("sha256 ${digest%% *}")
+    done
+    expect "$name" 0 "${lines[@]}" "$line" : parts "$@"
 }
 
 # A table file must be answered by its digest and this line: table NAME STATUS LINE WORD..

@@ -53,8 +53,9 @@ MOST_TRIES = 2000
 TELLING = bytes([0, 1, 2, 3, 4, 8, 16, 17, 32, 65, 128, 252, 253, 254, 255]) + b" \t\r\n;0129UDLRusetT-+"
 # The names of what a run writes and reads by its standard streams, in its folder.
 STREAMS = [".in", ".out", ".err"]
-# What `parts` tells beside a yes.
+# What `parts` tells beside its answer.
 SKIPPED = rb"pdb_cli: lines that tell of no part of this bound, and were skipped: \d+ of \d+\n"
+ENDED = rb"pdb_cli: parts that are open since a budget ended their search: \d+ of \d+\n"
 
 
 # Changes of bytes.
@@ -474,7 +475,7 @@ class Program:
         written, errors = (folder / ".out").read_bytes(), (folder / ".err").read_bytes()
         left = {path.name: path.read_bytes() for path in folder.iterdir() if path.name not in STREAMS}
         shutil.rmtree(folder)
-        if re.fullmatch(SKIPPED if status == 0 else rb"pdb_cli: .*\n", errors):
+        if re.fullmatch(SKIPPED if status == 0 else rb"(%b)?%b|pdb_cli: .*\n" % (SKIPPED, ENDED), errors):
             # It says why the answer is no yes.
             errors = b""
         return Ended(written, status, left, MISTAKE if errors.startswith(MISTAKE) else errors)

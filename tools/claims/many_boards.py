@@ -56,7 +56,7 @@ def ask(board, bound, parts, command):
                 print(f"  {bound}: {line}", end="", flush=True)
     if run.returncode == 0:
         return None
-    false = re.fullmatch(rf"refused O2 by (\w*) ?of {board} : {bound} part .*\n", last)
+    false = re.fullmatch(rf"refused O2 by (\w*) ?of {board} : {bound}\n", last)
     if not false:
         sys.exit(f"{last}many_boards.py: stopped at {board} : {bound}")
     return false[1]

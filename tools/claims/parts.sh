@@ -9,8 +9,8 @@
 #
 # It runs in a folder with the file BOARD and `pdb_cli` (a copy of out/pdb_cli). It makes the folder `answers` there, and
 # reads the files answers/*.lines. It may be stopped and started again; one at a time in a folder. The status is 0 if the
-# bound is said. It stops with a sentence and the status 1 where `parts` fails, where a line of the round says that
-# something is refused or has failed, and where a round answers nothing.
+# bound is said. It stops with a sentence and the status 1 where `parts` fails or says that the bound is false, where a line of
+# the round says that something is refused or has failed, and where a round answers nothing.
 set -uo pipefail
 shopt -s nullglob
 
@@ -25,6 +25,10 @@ stop() {
 find_open() {
     local status=0 said
     said=$(./pdb_cli parts "$board" "$bound" "$parts" /dev/null answers/*.lines 2>&1 >open.new) || status=$?
+    if grep '^refused O2 by ' open.new; then
+        rm -f open.new
+        stop 'the bound is false: these moves are fewer'
+    fi
     if [ "$status" != 1 ] || ! grep -q ' part ' open.new; then
         cat open.new
         rm -f open.new

@@ -117,7 +117,7 @@ show "cat answers/$job.0.errors"
 must 'the task took up where it was' grep -q '^start 1, 2 workers: open are [1-5] of ' "answers/$job.0.errors"
 show "grep ^part answers/$job.0.lines"
 must 'what was answered before is kept, and not claimed again' keeps "answers/$job.0.lines" before
-must 'the bound is said' grep -q '^bound 78 of .* from 15 parts$' run
+must 'the bound is said' grep -q '^joined bound 78 of .* from 15 parts, by lines that were read$' run
 
 echo '# Many boards under Slurm.'
 show "echo '14 1 9 6 4 8 12 5 7 2 3 0 10 11 13 15 : 45' >claims"
@@ -134,5 +134,5 @@ must 'no tables among the words' stops 'answered no part' './parts.sh --tasks 2 
 show 'grep -hA 1 ^error: answers/*.errors | head -n 2'
 must 'no such partition' stops 'answered no part' "./parts.sh board 78 17 sbatch -p big part.sbatch sets $tables"
 show "echo '1 5 2 3 4 9 0 7 8 10 6 11 12 13 14 15' >near"
-must 'a false bound' stops 'refused or failed' "./parts.sh near 7 1 ./pdb_cli prove - sets $tables"
+must 'a false bound' stops 'the bound is false' "./parts.sh near 7 1 ./pdb_cli prove - sets $tables"
 echo 'all went as it should'

@@ -294,6 +294,8 @@ def answers_on_parts(draw):
         line % (0, count, (bound + 1) % 256, numbers),
         line % (0, count, bound, numbers[::-1]),
         b"refused K1 of %b : %d part 0/%d\n" % (numbers, bound, count),
+        b"refused K2 of %b : %d part 0/%d\n" % (numbers, bound, count),
+        b"refused O2 by %b of %b : %d part 0/%d\n" % (letters.encode(), numbers, bound, count),
         b"sha256 %064x\n" % draw.getrandbits(256),
         b"bound %d of %b\n" % (bound, numbers),
     ]

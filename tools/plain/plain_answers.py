@@ -894,17 +894,35 @@ def claims_answered(run, ended, inputs):
     return [right_line(claim, line, run.boards) for claim, line in pairs]
 
 
+def refuting_moves(line, board, bound, count):
+    """The letters in a line that says that moves show the claim of one of so many parts to be false, where they do."""
+    told = re.fullmatch(rb"refused O2 by([^o]*) of (.*) part (0|[1-9]\d*)/(\d+)", line)
+    if told is None or told[2] != str(Claim(board, bound=bound)).encode() or told[4] != b"%d" % count or int(told[3]) >= count:
+        return None
+    try:
+        return bytes(filter(LETTERS.__contains__, told[1])) if replay(board, told[1]) < bound else None
+    except Refused:
+        return None
+
+
 def parts_joined(run, inputs):
     """The lines of a bound whose parts are joined, and the status."""
     text, *answers = inputs
     board, (bound, count) = read_board(text), run.numbers
-    lines = {line for answer in answers for line in answer.split(b"\n")[:-1]}
+    lines = [line for answer in answers for line in answer.split(b"\n")[:-1]]
+    for line in lines:
+        letters = refuting_moves(line, board, bound, count)
+        if letters is not None:
+            moves = b" " + letters if letters else b""
+            return b"refused O2 by%b of %b\n" % (moves, str(Claim(board, bound=bound)).encode()), 1
+    told = set(lines)
     claims = [Claim(board, bound=bound, part=(index, count)) for index in range(count)]
-    left = [claim for claim in claims if part_line(claim) not in lines]
+    left = [claim for claim in claims if part_line(claim) not in told]
     if left:
         return "".join(f"{claim}\n" for claim in left).encode(), 1
     plain = " ".join(map(str, board))
-    return f"bound {bound} of {plain} from {count} parts\n".encode(), 0
+    joined = f"joined bound {bound} of {plain} from {count} parts, by lines that were read\n"
+    return b"".join(map(digest_line, answers)) + joined.encode(), 0
 
 
 def is_spared(run):

@@ -65,7 +65,8 @@ known text all = AllPass-from_list_all (λ b. not (eqb b 10)) text all
 pub join_no_lf : (a b : List ℕ) → HasNo 10 a → HasNo 10 b → HasNo 10 (a ++ b)
 join_no_lf a b p q = All-append (λ byte. not (eqb byte 10) ≡ true) a b p q
 
-numbers-no_lf : (b : List ℕ) → HasNo 10 (numbers b)
+-- nor have the numbers of a board
+pub numbers-no_lf : (b : List ℕ) → HasNo 10 (numbers b)
 numbers-no_lf [] = All-nil (λ b. not (eqb b 10) ≡ true)
 numbers-no_lf (n ∷ b) = join_no_lf (codes " " ++ decimal n) (numbers b)
     (join_no_lf (codes " ") (decimal n) (known (codes " ") refl) (decimal-no_lf n)) (numbers-no_lf b)

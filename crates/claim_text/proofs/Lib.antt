@@ -2,7 +2,7 @@ pub mod AnswerLemmas
 mod BoundLemmas
 pub mod ClaimLemmas
 pub mod CutLemmas
-mod DecimalLemmas
+pub mod DecimalLemmas
 pub mod LetterLemmas
 mod NumeralLemmas
 pub mod ReadingLemmas

@@ -53,9 +53,10 @@ told_text (refused what claim) = what ++ codes " of" ++ claim_words claim
 abbrev pub told_line : Told → List ℕ
 told_line told = told_text told ++ codes "\n"
 
--- the line that says that a bound of the board holds where each of its parts does, so many of them
+-- the line that says that lines which were read give a bound of the board, in so many parts
 abbrev pub joined_line : ℕ → ℕ → List ℕ → List ℕ
-joined_line n count b = codes "bound " ++ decimal n ++ codes " of" ++ numbers b ++ codes " from " ++ decimal count ++ codes " parts\n"
+joined_line n count b =
+    codes "joined bound " ++ decimal n ++ codes " of" ++ numbers b ++ codes " from " ++ decimal count ++ codes " parts, by lines that were read\n"
 
 -- ---- what holds of them
 

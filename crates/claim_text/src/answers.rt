@@ -40,18 +40,19 @@ pub fn bound_line(bound: u8, board: &Board) -> Line
     line
 }
 
-/// The line that says that a bound of a board holds where each of its parts does: `bound 6 of 3 2 1 0 from 3 parts`.
+/// The line that says that lines which were read give a bound of a board, in so many parts:
+/// `joined bound 6 of 3 2 1 0 from 3 parts, by lines that were read`.
 pub fn joined_line(bound: u8, count: u16, board: &Board) -> Line
     ensures { result.bytes ≡ joined_line bound count board.now }
 {
     let mut line = Line::new();
-    line.push_str("bound ");
+    line.push_str("joined bound ");
     line.push_str(Buffer::new().format(bound));
     line.push_str(" of");
     add_numbers(&mut line, board);
     line.push_str(" from ");
     line.push_str(Buffer::new().format(count));
-    line.push_str(" parts\n");
+    line.push_str(" parts, by lines that were read\n");
     line
 }
 
@@ -121,6 +122,26 @@ pub fn claim_line(claim: &Claim<'_>) -> Line
     };
     let mut line = Line::new();
     line.push_str(words);
+    line
+}
+
+/// The end of a line that answers a claim: ` of 3 2 1 0 : 7` and an LF.
+pub(crate) fn of_claim(claim: &Claim<'_>) -> Line
+    requires { HasFewLetters (claim_shown claim.now) }
+    ensures { result.bytes ≡ codes " of" ++ claim_words (claim_shown claim.now) ++ codes "\n" }
+{
+    end_with(Line::new(), claim)
+}
+
+/// The end of a line that answers the claim of a part, up to the words of the part: ` of 3 2 1 0 : 7 part `.
+pub(crate) fn part_front(bound: u8, board: &Board) -> Line
+    ensures { result.bytes ≡ codes " of" ++ numbers board.now ++ (codes " : " ++ decimal bound) ++ codes " part " }
+{
+    let mut line = Line::new();
+    line.push_str(" of");
+    add_numbers(&mut line, board);
+    add_bound(&mut line, bound);
+    line.push_str(" part ");
     line
 }
 

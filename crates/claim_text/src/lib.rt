@@ -21,4 +21,4 @@ pub use claims::{Asks, Claim};
 pub use faults::ClaimsFault;
 pub use letters::MOST_MOVES;
 pub use texts::{MOST_CLAIMS, read_claims};
-pub use told_parts::told_index;
+pub use told_parts::{RefusedPart, refused_part, told_index};

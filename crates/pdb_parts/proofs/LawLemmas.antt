@@ -14,17 +14,16 @@ use Rattle.pdb_parts.specs.Joining.{ShownBoundInParts, is_told, part_line}
 use Rattle.pdb_parts.specs.Laws.{IsTrueLine, LinesGiveTheBound}
 
 -- what true lines say of a part is so
-part_holds : (lines : List (List ℕ)) (asked : ShownBoundInParts) (index : ℕ) → is_told lines asked index ≡ true → All IsTrueLine lines
-    → IsPartBounded (part_at asked.count index) asked.bound asked.board
-part_holds [] asked index told all = absurd (let no : false ≡ true = told in cc)
-part_holds (line ∷ lines) asked index told all =
-    go (bytes_eq line (part_line asked index)) refl told (λ later. part_holds lines asked index later (All-tail IsTrueLine line lines all))
+part_holds : (lines : List (List ℕ)) (asked : ShownBoundInParts) (index : ℕ) → index < asked.count → is_told lines asked index ≡ true
+    → All (IsTrueLine asked) lines → IsPartBounded (part_at asked.count index) asked.bound asked.board
+part_holds [] asked index below told all = absurd (let no : false ≡ true = told in cc)
+part_holds (line ∷ lines) asked index below told all =
+    go (bytes_eq line (part_line asked index)) refl told (λ later. part_holds lines asked index below later (All-tail (IsTrueLine asked) line lines all))
   where
     go : (b : Bool) → bytes_eq line (part_line asked index) ≡ b → (b || is_told lines asked index) ≡ true
         → (is_told lines asked index ≡ true → IsPartBounded (part_at asked.count index) asked.bound asked.board)
         → IsPartBounded (part_at asked.count index) asked.bound asked.board
-    go true e told later = All-head IsTrueLine line lines all (part_at asked.count index) asked.bound asked.board
-        ((bytes_eq-Decides line (part_line asked index)).0 e)
+    go true e told later = All-head (IsTrueLine asked) line lines all index below ((bytes_eq-Decides line (part_line asked index)).0 e)
     go false e told later = later told
 
 -- true lines that say so of all parts give the bound
@@ -38,4 +37,4 @@ lines_give lines asked board some told all =
     let here : get_or range index 0 ≡ index = get_or-range_with_len 0 asked.count index 0 below ∙ place in
     let is : is_told lines asked index ≡ true = subst (λ k. is_told lines asked k ≡ true) here
     (AllPass-from_list_all (is_told lines asked) range told index 0 within) in
-    part_holds lines asked index is all)
+    part_holds lines asked index below is all)

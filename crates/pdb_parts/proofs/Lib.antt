@@ -1,6 +1,6 @@
-mod CountLemmas
+mod AnswerLemmas
 mod LawLemmas
-mod LineLemmas
+pub mod LineLemmas
 mod MarkLemmas
 pub mod ReplyLemmas
 mod RunLemmas

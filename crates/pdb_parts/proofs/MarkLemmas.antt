@@ -1,67 +1,139 @@
--- Marks of parts.
-use Rattle.std.proofs.Common.{◌≡◌, ℕ, suc, zero, ◌+◌, ◌<◌, ◌≤◌, ◌||◌, ◌&&◌, add-one, Bool, true, false, List, [], ◌∷◌, ◌++◌, cond, get_or, set}
-use Rattle.std.proofs.Common.{length, not, refl, sym, ◌∙◌, ap, arith, inl, inr}
-use Rattle.std.proofs.lemmas.Bool.{cases_Bool, cases_eq, cond-false, cond-true}
+-- Marks of parts, and counts of lines.
+use Rattle.std.proofs.Common.{◌≡◌, ◌≢◌, ℕ, suc, zero, ◌+◌, ◌<◌, ◌≤◌, ◌||◌, ◌&&◌, add-one, Bool, true, false, List, [], ◌∷◌, ◌++◌, cond, eqb, eq-eqb, get_or, set}
+use Rattle.std.proofs.Common.{flat_map, length, length-append, not, refl, sym, ◌∙◌, ap, append_assoc, arith, inl, inr, Some}
+use mir.Val.{bool_byte}
+use Rattle.std.proofs.lemmas.Bool.{cases_eq, cond-false, cond-true, ne_eqb}
 use Rattle.std.proofs.lemmas.Grind.{flat_map-append, get_or-set_at}
 use Rattle.std.proofs.lemmas.List.{append-nil, get_or-set_other}
-use Rattle.std.proofs.lemmas.List.Elements.{filter-append}
+use Rattle.std.proofs.lemmas.List.Elements.{All-append, All-cons, All-nil, filter-append}
 use Rattle.std.proofs.lemmas.List.Folds.{list_any-append}
-use Rattle.std.proofs.lemmas.Slice.Eq.{bytes_eq-Decides}
-use Rattle.std.specs.Prelude.{filter, flat_map}
-use Rattle.std.specs.List.{list_all, range_with_len}
+use Rattle.std.specs.Prelude.{filter}
+use Rattle.std.specs.List.{All, list_all, list_any, range_with_len}
 use Rattle.std.specs.Str.{bytes_eq}
-use Rattle.claim_text.specs.Lines.{joined_line}
-use Rattle.pdb_parts.specs.Joining.{ShownBoundInParts, are_told, is_told, joined_text, open_claim, open_claims, part_line}
+use Rattle.pdb_parts.specs.Beside.{is_of_search, is_spent, skipped_lines, spent_line, spent_parts}
+use Rattle.pdb_parts.specs.Joining.{AreFirstMoves, Refutes, RefutesNot, ShownBoundInParts, are_told, is_told, open_claim, open_claims, part_line, whole_lines}
+use Rattle.pdb_parts.specs.Stored.{AreCountsOf, AreMarksOf, IsAnswerOf, holds_in, is_skip, spent_in}
+use Rattle.pdb_parts.specs.declared.answers.PartAnswer.{PartAnswer}
+use Rattle.pdb_parts.specs.declared.beside.LineCounts.{LineCounts}
+use Rattle.pdb_parts.proofs.AnswerLemmas.{or_true}
 
-or_true : (b : Bool) → (b || true) ≡ true
-or_true true = refl
-or_true false = refl
-
-or_false : (b : Bool) → (b || false) ≡ b
+pub or_false : (b : Bool) → (b || false) ≡ b
 or_false true = refl
 or_false false = refl
 
-same_bytes : (a b : List ℕ) → a ≡ b → bytes_eq a b ≡ true
-same_bytes a b e = (bytes_eq-Decides a b).1 e
+-- ---- one line
 
--- bytes that differ are told apart
-pub other_bytes : (a b : List ℕ) → (a ≡ b → ⊥) → bytes_eq a b ≡ false
-other_bytes a b differ = elim (cases_Bool (bytes_eq a b)) [
-  | inl same ↦ absurd (differ ((bytes_eq-Decides a b).0 same))
-  | inr other ↦ other
-]
-
--- a line that says that one part holds marks that part, and no other
-pub one_marked : (told : List Bool) (line : List ℕ) (asked : ShownBoundInParts) (place index : ℕ) → place ≡ index → index < asked.count
-    → length told ≡ asked.count → line ≡ part_line asked index
-    → ((j : ℕ) → j < asked.count → line ≡ part_line asked j → j ≡ index) → (i : ℕ) → i < asked.count
-    → get_or (set told place true) i false ≡ (get_or told i false || bytes_eq line (part_line asked i))
-one_marked told line asked place index e below size is one i within = elim (cases_eq i index) [
+-- a mark at an index is there, and the others stay
+pub set_marked : (marks : List Bool) (place index : ℕ) → place ≡ index → index < length marks → (i : ℕ)
+    → get_or (set marks place true) i false ≡ (get_or marks i false || eqb index i)
+set_marked marks place index e below i = elim (cases_eq i index) [
   | inl same ↦
-      get_or-set_at told place i true false (same ∙ sym e) (omega arith) ∙
-      sym (ap (λ b. get_or told i false || b) (same_bytes line (part_line asked i) (is ∙ ap (part_line asked) (sym same))) ∙ or_true (get_or told i false))
+      get_or-set_at marks place i true false (same ∙ sym e) (omega arith) ∙
+      sym (ap (λ b. get_or marks i false || b) (eq-eqb index i (sym same)) ∙ or_true (get_or marks i false))
   | inr differs ↦
-      get_or-set_other told place i true false (λ f. differs (f ∙ e)) ∙
-      sym (ap (λ b. get_or told i false || b) (other_bytes line (part_line asked i) (λ f. differs (one i within f))) ∙ or_false (get_or told i false))
+      get_or-set_other marks place i true false (λ f. differs (f ∙ e)) ∙
+      sym (ap (λ b. get_or marks i false || b) (ne_eqb index i (λ f. differs (sym f))) ∙ or_false (get_or marks i false))
 ]
 
--- a line more
-pub line_more : (done : List (List ℕ)) (line : List ℕ) (asked : ShownBoundInParts) (i : ℕ) (before now : Bool)
-    → now ≡ ((before || is_told done asked i) || bytes_eq line (part_line asked i)) → now ≡ (before || is_told (done ++ line ∷ []) asked i)
-line_more done line asked i before now e =
-    e ∙ or_assoc before (is_told done asked i) (bytes_eq line (part_line asked i)) ∙
-    ap (λ b. before || b) (ap (λ b. is_told done asked i || b) (sym (or_false (bytes_eq line (part_line asked i))))
-    ∙ sym (list_any-append (λ l. bytes_eq l (part_line asked i)) done (line ∷ [])))
-  where
-    or_assoc : (a b c : Bool) → ((a || b) || c) ≡ (a || (b || c))
-    or_assoc true b c = refl
-    or_assoc false b c = refl
+-- without one they stay too
+pub unmarked : (marks : List Bool) (i : ℕ) → get_or marks i false ≡ (get_or marks i false || false)
+unmarked marks i = sym (or_false (get_or marks i false))
 
--- lines more
-pub lines_more : (done more : List (List ℕ)) (asked : ShownBoundInParts) (i : ℕ) (before now : Bool)
-    → before ≡ is_told done asked i → now ≡ (before || is_told more asked i) → now ≡ is_told (done ++ more) asked i
-lines_more done more asked i before now e f =
-    f ∙ ap (λ b. b || is_told more asked i) e ∙ sym (list_any-append (λ l. bytes_eq l (part_line asked i)) done more)
+-- a line more passes a test, or one of those before it
+pub any_more : (passes : List ℕ → Bool) (lines : List (List ℕ)) (line : List ℕ)
+    → (list_any passes lines || passes line) ≡ list_any passes (lines ++ line ∷ [])
+any_more passes lines line =
+    ap (λ b. list_any passes lines || b) (sym (or_false (passes line))) ∙ sym (list_any-append passes lines (line ∷ []))
+
+-- the marks with those of a line more
+pub marks_more : (holds spent holds_new spent_new : List Bool) (lines : List (List ℕ)) (line : List ℕ) (asked : ShownBoundInParts) (answer : PartAnswer)
+    → AreMarksOf holds spent lines asked → IsAnswerOf asked line answer → length holds_new ≡ length holds → length spent_new ≡ length spent
+    → ((i : ℕ) → i < length holds → get_or holds_new i false ≡ (get_or holds i false || holds_in answer i))
+    → ((i : ℕ) → i < length spent → get_or spent_new i false ≡ (get_or spent i false || spent_in answer i))
+    → AreMarksOf holds_new spent_new (lines ++ line ∷ []) asked
+marks_more holds spent holds_new spent_new lines line asked answer are is holds_size spent_size marked ended_by =
+    let holds_all = are.holds_size in
+    let spent_all = are.spent_size in
+    record {
+      holds_size = holds_size ∙ are.holds_size;
+      spent_size = spent_size ∙ are.spent_size;
+      told = λ i below.
+          marked i (omega arith) ∙ (λ k. are.told i below k || sym (is.holds i below) k)
+          ∙ any_more (λ l. bytes_eq l (part_line asked i)) lines line;
+      ended = λ i below.
+          ended_by i (omega arith) ∙ (λ k. are.ended i below k || sym (is.spent i below) k)
+          ∙ any_more (λ l. bytes_eq l (spent_line asked i)) lines line;
+    }
+
+one_or_none : (b : Bool) (line : List ℕ) → length (cond b (line ∷ []) []) ≡ bool_byte b
+one_or_none true line = refl
+one_or_none false line = refl
+
+-- of lines and one more as many are skipped, and one more where that is
+skipped_more : (lines : List (List ℕ)) (line : List ℕ) (asked : ShownBoundInParts)
+    → length (skipped_lines (lines ++ line ∷ []) asked) ≡ length (skipped_lines lines asked) + bool_byte (not (is_of_search asked line))
+skipped_more lines line asked =
+    ap length (filter-append (λ l. not (is_of_search asked l)) lines (line ∷ [])) ∙
+    length-append (skipped_lines lines asked) (skipped_lines (line ∷ []) asked) ∙
+    ap (λ n. length (skipped_lines lines asked) + n) (one_or_none (not (is_of_search asked line)) line)
+
+-- the counts of lines, with one line more
+pub counted_line : (before after : LineCounts) (lines : List (List ℕ)) (line : List ℕ) (asked : ShownBoundInParts) (answer : PartAnswer)
+    → AreCountsOf before lines asked → IsAnswerOf asked line answer → after.all ≡ before.all + 1 → after.skipped ≡ before.skipped + bool_byte (is_skip answer)
+    → AreCountsOf after (lines ++ line ∷ []) asked
+counted_line before after lines line asked answer are is all skipped = record {
+  all = omega (arith, all, are.all, length-append lines (line ∷ []));
+  skipped = omega (arith, skipped, are.skipped, skipped_more lines line asked, ap bool_byte is.skipped);
+}
+
+-- the counts of lines, with those of more
+pub counted_both : (one more : LineCounts) (lines others : List (List ℕ)) (asked : ShownBoundInParts) (both : LineCounts)
+    → AreCountsOf one lines asked → AreCountsOf more others asked → both.all ≡ one.all + more.all → both.skipped ≡ one.skipped + more.skipped
+    → AreCountsOf both (lines ++ others) asked
+counted_both one more lines others asked both first second all skipped = record {
+  all = omega (arith, all, first.all, second.all, length-append lines others);
+  skipped =
+      omega (
+        arith,
+        skipped,
+        first.skipped,
+        second.skipped,
+        ap length (filter-append (λ l. not (is_of_search asked l)) lines others),
+        length-append (skipped_lines lines asked) (skipped_lines others asked),
+      );
+}
+
+-- at most one more
+pub one_at_most : (b : Bool) → bool_byte b ≤ 1
+one_at_most true = omega arith
+one_at_most false = omega arith
+
+-- ---- moves that lines show
+
+-- none of lines shows any, nor does one more
+pub none_more : (asked : ShownBoundInParts) (lines : List (List ℕ)) (line : List ℕ) → All (RefutesNot asked) lines → RefutesNot asked line
+    → All (RefutesNot asked) (lines ++ line ∷ [])
+none_more asked lines line none last =
+    All-append (RefutesNot asked) lines (line ∷ []) none (All-cons (RefutesNot asked) line [] last (All-nil (RefutesNot asked)))
+
+-- behind lines that show none, the first of more lines are the first of all
+pub first_behind : (asked : ShownBoundInParts) (lines more behind : List (List ℕ)) (moves : List ℕ) → All (RefutesNot asked) lines
+    → AreFirstMoves asked more (Some moves) → AreFirstMoves asked (lines ++ (more ++ behind)) (Some moves)
+first_behind asked lines more behind moves none first = (
+  lines ++ first.0,
+  first.1,
+  first.2 ++ behind,
+  ap (λ (all : List (List ℕ)). lines ++ (all ++ behind)) first.3
+      ∙ ap (λ (all : List (List ℕ)). lines ++ all) (append_assoc first.0 (first.1 ∷ first.2) behind)
+      ∙ sym (append_assoc lines first.0 (first.1 ∷ (first.2 ++ behind))),
+  All-append (RefutesNot asked) lines first.0 none first.4,
+  first.5,
+)
+
+-- a line that shows moves, behind lines that show none
+pub first_line : (asked : ShownBoundInParts) (lines behind : List (List ℕ)) (line moves : List ℕ) → All (RefutesNot asked) lines → Refutes asked line moves
+    → AreFirstMoves asked (lines ++ line ∷ behind) (Some moves)
+first_line asked lines behind line moves none refutes = (lines, line, behind, refl, none, refutes)
 
 -- ---- the numbers from 0 on
 
@@ -70,18 +142,33 @@ range_more a zero = let same : a ≡ a + 0 = omega arith in ap (λ k. k ∷ []) 
 range_more a (suc n) = let same : a + 1 + n ≡ a + suc n = omega arith in
     ap (λ xs. a ∷ xs) (range_more (a + 1) n ∙ ap (λ k. range_with_len (a + 1) n ++ k ∷ []) same)
 
--- the texts of those that pass, with one number more
+-- those that pass, with one number more
+pub passing_more : (p : ℕ → Bool) (n : ℕ) → filter p (range_with_len 0 (n + 1)) ≡ filter p (range_with_len 0 n) ++ cond (p n) (n ∷ []) []
+passing_more p n =
+    let last : 0 + n ≡ n = omega arith in
+    ap (λ k. filter p (range_with_len 0 k)) (add-one n)
+    ∙ ap (filter p) (range_more 0 n ∙ ap (λ k. range_with_len 0 n ++ k ∷ []) last) ∙ filter-append p (range_with_len 0 n) (n ∷ [])
+
+-- their texts
 pub left_more : (f : ℕ → List ℕ) (p : ℕ → Bool) (n : ℕ)
     → flat_map f (filter p (range_with_len 0 (n + 1))) ≡ flat_map f (filter p (range_with_len 0 n)) ++ cond (p n) (f n) []
 left_more f p n =
-    let last : 0 + n ≡ n = omega arith in
-    ap (λ k. flat_map f (filter p (range_with_len 0 k))) (add-one n)
-    ∙ ap (λ ns. flat_map f (filter p ns)) (range_more 0 n ∙ ap (λ k. range_with_len 0 n ++ k ∷ []) last) ∙
-    ap (flat_map f) (filter-append p (range_with_len 0 n) (n ∷ [])) ∙ flat_map-append f (filter p (range_with_len 0 n)) (filter p (n ∷ [])) ∙
+    ap (flat_map f) (passing_more p n) ∙ flat_map-append f (filter p (range_with_len 0 n)) (cond (p n) (n ∷ []) []) ∙
     ap (λ text. flat_map f (filter p (range_with_len 0 n)) ++ text) (one (p n))
   where
     one : (b : Bool) → flat_map f (cond b (n ∷ []) []) ≡ cond b (f n) []
     one true = append-nil (f n)
+    one false = refl
+
+-- how many they are
+pub count_more : (p : ℕ → Bool) (n : ℕ) (b : Bool) → p n ≡ b
+    → length (filter p (range_with_len 0 (n + 1))) ≡ length (filter p (range_with_len 0 n)) + bool_byte b
+count_more p n b is =
+    ap length (passing_more p n) ∙ length-append (filter p (range_with_len 0 n)) (cond (p n) (n ∷ []) []) ∙
+    ap (λ k. length (filter p (range_with_len 0 n)) + k) (one (p n) ∙ ap bool_byte is)
+  where
+    one : (b : Bool) → length (cond b (n ∷ []) []) ≡ bool_byte b
+    one true = refl
     one false = refl
 
 -- tests that agree below n leave the same numbers
@@ -100,23 +187,27 @@ all_same p (b ∷ told) a same =
     (λ i. (same 0 (omega arith) ∙ ap p first) i && all_same p told (a + 1) (λ k below. let next : a + suc k ≡ a + 1 + k = omega arith in
     same (suc k) (omega arith) ∙ ap p next) i)
 
-module _ (lines : List (List ℕ)) (asked : ShownBoundInParts) (told : List Bool) (size : length told ≡ asked.count)
-    (marks : (i : ℕ) → i < asked.count → get_or told i false ≡ is_told lines asked i) where
+-- ---- what the marks of all lines say
+
+module _ (lines : List (List ℕ)) (asked : ShownBoundInParts) (holds spent : List Bool) (are : AreMarksOf holds spent lines asked) where
   -- all parts have a mark where lines say so of all
-  pub all_told : list_all (λ b. b) told ≡ are_told lines asked
+  pub all_told : list_all (λ b. b) holds ≡ are_told lines asked
   all_told =
-      all_same (is_told lines asked) told 0 (λ i below. let same : 0 + i ≡ i = omega arith in
-      marks i (omega (arith, size)) ∙ ap (is_told lines asked) (sym same)) ∙
+      let size = are.holds_size in
+      all_same (is_told lines asked) holds 0 (λ i below. let same : 0 + i ≡ i = omega arith in
+      are.told i (omega (arith, size)) ∙ ap (is_told lines asked) (sym same)) ∙
       ap (λ n. list_all (is_told lines asked) (range_with_len 0 n)) size
 
-  -- then the bound is said
-  pub yes_joined : list_all (λ b. b) told ≡ true → joined_text lines asked ≡ joined_line asked.bound asked.count asked.board
-  yes_joined all = cond-true (are_told lines asked) (joined_line asked.bound asked.count asked.board) (open_claims lines asked) (sym all_told ∙ all)
+  -- those without one are open
+  pub left_open : flat_map (open_claim asked) (filter (λ i. not (get_or holds i false)) (range_with_len 0 asked.count)) ≡ open_claims lines asked
+  left_open =
+      ap (flat_map (open_claim asked)) (filter_same (λ i. not (get_or holds i false)) (λ i. not (is_told lines asked i)) 0 asked.count
+      (λ i low high. ap not (are.told i (omega arith))))
 
-  -- and else the claims of those without one
-  pub no_joined : list_all (λ b. b) told ≡ false
-      → joined_text lines asked ≡ flat_map (open_claim asked) (filter (λ i. not (get_or told i false)) (range_with_len 0 asked.count))
-  no_joined some =
-      cond-false (are_told lines asked) (joined_line asked.bound asked.count asked.board) (open_claims lines asked) (sym all_told ∙ some) ∙
-      ap (flat_map (open_claim asked)) (filter_same (λ i. not (is_told lines asked i)) (λ i. not (get_or told i false)) 0 asked.count
-      (λ i low high. ap not (sym (marks i (omega arith)))))
+  -- and those of them with the other mark had their search ended
+  pub ended_open : length (filter (λ i. not (get_or holds i false) && get_or spent i false) (range_with_len 0 (length holds)))
+      ≡ length (spent_parts lines asked)
+  ended_open =
+      ap (λ n. length (filter (λ i. not (get_or holds i false) && get_or spent i false) (range_with_len 0 n))) are.holds_size ∙
+      ap length (filter_same (λ i. not (get_or holds i false) && get_or spent i false) (λ i. not (is_told lines asked i) && is_spent lines asked i)
+      0 asked.count (λ i low high. let below : i < asked.count = omega arith in λ k. not (are.told i below k) && are.ended i below k))

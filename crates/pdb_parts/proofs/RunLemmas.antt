@@ -1,5 +1,5 @@
 -- How a run of `parts` ends.
-use Rattle.std.proofs.Common.{◌≡◌, ◌∙◌, ◌∷◌, ◌⊎◌, ℕ, List, [], None, Option, Some, Ok, Err, ap, false, flat_map, inl, inr, refl, string_bytes, subst}
+use Rattle.std.proofs.Common.{◌≡◌, ◌∙◌, ◌∷◌, ◌⊎◌, ℕ, Bool, List, [], None, Option, Some, Ok, Err, ap, false, inl, inr, refl, string_bytes, subst}
 use Rattle.std.proofs.KnownBytes.{Appends-nil, Keeps-refl}
 use Rattle.std.specs.Io.KnownBytes.{Appends}
 use Rattle.puz_board.specs.BoardTexts.{Spells, board_of_text}
@@ -19,11 +19,11 @@ use Rattle.pdb_run.specs.declared.statuses.Status.TheVariants.{Fault, NoMemory, 
 use Rattle.pdb_run.proofs.AnswerLemmas.{IsAnswered-ends, begun_reading, ends_so, ends_wanting}
 use Rattle.pdb_verdict.specs.Lines.{reply_on}
 use Rattle.pdb_verdict.specs.declared.verdicts.Fault.TheVariants as fault
-use Rattle.pdb_parts.specs.Joining.{are_told, joined_text, whole_lines}
-use Rattle.pdb_parts.specs.Parts.{asked_of_board, joined_reply, parts_inputs, parts_plan, parts_reply}
-use Rattle.pdb_parts.specs.Skipped.{HasToldSkipped, TellsSkipped, skipped_text, told_of_skipped}
+use Rattle.pdb_parts.specs.Beside.{HasToldBeside, IsToldOfAnswers, TellsOfAnswers}
+use Rattle.pdb_parts.specs.Joining.{joined_reply}
+use Rattle.pdb_parts.specs.Parts.{IsReplyOfParts, asked_of_board, parts_inputs, parts_plan}
 use Rattle.pdb_parts.specs.Steps.{IsBoardRefused, TellsBeside, reading_plan}
-use Rattle.pdb_parts.specs.Stored.{AreCountsOf}
+use Rattle.pdb_parts.specs.Stored.{IsJoined}
 use Rattle.pdb_parts.specs.declared.joining.Joined.{Joined}
 
 -- ---- a run that joins no parts
@@ -57,7 +57,7 @@ module _ (arguments : PartsArguments) (count : AreParts arguments.count) {old ne
         answers = cause.1.answers;
         order = cause.1.order;
         count = count;
-        said = cause.1.said ∙ ap (λ board. parts_reply arguments board cause.1.answers) cause.1.is;
+        said = subst (λ board. IsReplyOfParts arguments board cause.1.answers reply) cause.1.is cause.1.said;
       },
     );
     spares = spares;
@@ -102,7 +102,7 @@ refused_no reply refused is = let clash : Yes ≡ Refused = is ∙ ap status_of_
 
 -- and tells nothing
 pub read_tells : (arguments : PartsArguments) (old new : World) (err : Option Bytes) (status : Status) → Ends (reading_plan arguments) old new status
-    → TellsSkipped arguments old err err status
+    → TellsOfAnswers arguments old err err status
 read_tells arguments old new err Yes ends =
     let answered = IsAnswered-ends (reading_plan arguments) old new Yes ends (inl refl) in
     absurd (refused_no answered.reply (ap (λ (r : Reply). r.is_yes) answered.right.1.said) answered.is_status)
@@ -113,7 +113,9 @@ read_tells arguments old new err Refused ends =
       text = is.text;
       answers = is.answers;
       read = subst (AreRead old.files old.reader (parts_inputs arguments)) is.order answered.right.0;
-      told = inl (subst (λ board. Appends err err (told_of_skipped arguments board is.answers)) is.is (Appends-nil err));
+      told = [];
+      is = subst (λ board. IsToldOfAnswers arguments board is.answers []) is.is refl;
+      got = inl (Appends-nil err);
     }
 read_tells arguments old new err Fault ends = Keeps-refl err
 read_tells arguments old new err NoMemory ends = Keeps-refl err
@@ -124,16 +126,23 @@ module _ (arguments : PartsArguments) (count : AreParts arguments.count) {old mi
     (answers : List Bytes) (b : List ℕ)
     (are : HasRead (parts_inputs arguments) old mid inputs) (order : inputs ≡ text ∷ answers) (is : Ok b ≡ board_of_text text) where
   -- what was joined is said
-  pub ends_joined : (joined : Joined)
-      → string_bytes joined.text ≡ joined_text (flat_map whole_lines answers) (asked_of_board arguments b)
-      → joined.is_yes ≡ are_told (flat_map whole_lines answers) (asked_of_board arguments b)
+  pub ends_joined : (joined : Joined) → IsJoined joined answers (asked_of_board arguments b)
       → IsSaid (string_bytes joined.text) (status_of_reply joined.is_yes) mid new status → Ends (parts_plan arguments) old new status
-  ends_joined joined same told said =
+  ends_joined joined are_joined said =
       let begun = begun_reading {plan = parts_plan arguments} refl are in
-      let reply = joined_reply answers (asked_of_board arguments b) in
-      let whole = subst (λ y. IsSaid (string_bytes joined.text) (status_of_reply y) mid new status) told said in
-      ends_so (replied inputs reply) (subst (λ bytes. IsSaid bytes (status_of_reply reply.is_yes) mid new status) same whole)
-      (begun.read, record { text = text; answers = answers; order = order; count = count; said = ap (λ board. parts_reply arguments board answers) is })
+      let reply = joined_reply answers (asked_of_board arguments b) are_joined.moves in
+      let right : IsReplyOfParts arguments (Ok b) answers reply = record { moves = are_joined.moves; first = are_joined.first; is = refl } in
+      ends_so (replied inputs reply)
+      (subst (λ (t : Bytes × Bool). IsSaid t.0 (status_of_reply t.1) mid new status) (λ i. (are_joined.text i, are_joined.is_yes i)) said) (
+        begun.read,
+        record {
+          text = text;
+          answers = answers;
+          order = order;
+          count = count;
+          said = subst (λ board. IsReplyOfParts arguments board answers reply) is right;
+        },
+      )
       begun.free begun.files begun.calls (λ _ _. begun.failed) begun.behind begun.written
 
   -- or that memory was wanted
@@ -142,22 +151,22 @@ module _ (arguments : PartsArguments) (count : AreParts arguments.count) {old mi
 
 module _ (arguments : PartsArguments) {old mid : World} {inputs : List Bytes} (text : Bytes) (answers : List Bytes) (b : List ℕ)
     (are : HasRead (parts_inputs arguments) old mid inputs) (order : inputs ≡ text ∷ answers) (is : Ok b ≡ board_of_text text) (joined : Joined)
-    (counts : AreCountsOf joined.counts (flat_map whole_lines answers) (asked_of_board arguments b)) (old_err new_err : Option Bytes) where
-  told_whole : (let line = skipped_text joined.counts.skipped joined.counts.all in Appends old_err new_err line ⊎ AppendsFront old_err new_err line)
-      → HasToldSkipped arguments old old_err new_err
-  told_whole told = record {
-    text = text;
-    answers = answers;
-    read = subst (AreRead old.files old.reader (parts_inputs arguments)) order are.read;
-    told = subst
-        (λ line. Appends old_err new_err line ⊎ AppendsFront old_err new_err line)
-        ((λ i. skipped_text (counts.skipped i) (counts.all i)) ∙ ap (λ board. told_of_skipped arguments board answers) is)
-        told;
-  }
+    (are_joined : IsJoined joined answers (asked_of_board arguments b)) (old_err new_err : Option Bytes) where
+  told_whole : Appends old_err new_err joined.beside.bytes ⊎ AppendsFront old_err new_err joined.beside.bytes → HasToldBeside arguments old old_err new_err
+  told_whole got =
+      let told : IsToldOfAnswers arguments (Ok b) answers joined.beside.bytes =
+      record { moves = are_joined.moves; first = are_joined.first; is = are_joined.beside } in
+      record {
+        text = text;
+        answers = answers;
+        read = subst (AreRead old.files old.reader (parts_inputs arguments)) order are.read;
+        told = joined.beside.bytes;
+        is = subst (λ board. IsToldOfAnswers arguments board answers joined.beside.bytes) is told;
+        got = got;
+      }
 
-  -- the lines that were skipped there are told
-  pub tells_joined : (status : Status) → TellsBeside (skipped_text joined.counts.skipped joined.counts.all) old_err new_err status
-      → TellsSkipped arguments old old_err new_err status
+  -- what is told beside it is told
+  pub tells_joined : (status : Status) → TellsBeside joined.beside.bytes old_err new_err status → TellsOfAnswers arguments old old_err new_err status
   tells_joined Yes told = told_whole told
   tells_joined Refused told = told_whole told
   tells_joined Fault told = told

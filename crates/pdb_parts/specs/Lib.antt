@@ -1,8 +1,8 @@
 -- What public contracts say.
+pub mod Beside
 pub mod Joining
 pub mod Laws
 pub mod Parts
-pub mod Skipped
 -- How values are stored.
 pub mod Stored
 -- What proofs alone need.

@@ -1,5 +1,5 @@
--- `parts BOARD N K ANSWERS..`: a bound of a board is said where lines say that each of its parts holds.
-use Rattle.std.specs.Prelude.{◌≡◌, ◌^◌, ℕ, List, [], ◌∷◌, None, Some, Result, Ok, Err, flat_map, map}
+-- `parts BOARD N K ANSWERS..`: what lines tell of the parts of a bound, joined.
+use Rattle.std.specs.Prelude.{◌≡◌, ◌^◌, ℕ, List, [], ◌∷◌, None, Some, Option, Result, Ok, Err, flat_map, map}
 use Rattle.puz_board.specs.BoardTexts.{Spells, board_of_text}
 use Rattle.puz_board.specs.declared.texts.BoardFault.{BoardFault}
 use Rattle.claim_text.specs.Parts.{AreParts}
@@ -9,7 +9,7 @@ use Rattle.pdb_run.specs.Commands.{Plan, Reply, Wanted, plan}
 use Rattle.pdb_verdict.specs.Limits.{a_text}
 use Rattle.pdb_verdict.specs.Lines.{reply_on}
 use Rattle.pdb_verdict.specs.declared.verdicts.Fault.TheVariants as fault
-use Rattle.pdb_parts.specs.Joining.{ShownBoundInParts, are_told, joined_text, whole_lines}
+use Rattle.pdb_parts.specs.Joining.{AreFirstMoves, ShownBoundInParts, joined_reply, whole_lines}
 
 -- ---- what is read
 
@@ -27,15 +27,16 @@ parts_inputs arguments = a_text arguments.board ∷ map an_answers_text argument
 abbrev pub asked_of_board : PartsArguments → List ℕ → ShownBoundInParts
 asked_of_board arguments b = record { board = b; bound = arguments.bound; count = arguments.count }
 
--- the bound, or the claims that are open, behind no digests
-abbrev pub joined_reply : List Bytes → ShownBoundInParts → Reply
-joined_reply answers asked = let lines = flat_map whole_lines answers in
-    record { digested = []; made = None; lines = joined_text lines asked; is_yes = are_told lines asked }
+-- this is said where the lines show these moves, if any
+pub record IsJoinedReply (asked : ShownBoundInParts) (answers : List Bytes) (reply : Reply) : Type 0 where
+  pub moves : Option (List ℕ)
+  pub first : AreFirstMoves asked (flat_map whole_lines answers) moves
+  pub is : reply ≡ joined_reply answers asked moves
 
 -- the same for a board that was read, and otherwise why its text is refused
-abbrev pub parts_reply : PartsArguments → Result (List ℕ) BoardFault → List Bytes → Reply
-parts_reply arguments (Err refused) answers = reply_on [] (Err (fault.Board refused))
-parts_reply arguments (Ok b) answers = joined_reply answers (asked_of_board arguments b)
+abbrev pub IsReplyOfParts : PartsArguments → Result (List ℕ) BoardFault → List Bytes → Reply → Type 0
+IsReplyOfParts arguments (Err refused) answers reply = reply ≡ reply_on [] (Err (fault.Board refused))
+IsReplyOfParts arguments (Ok b) answers reply = IsJoinedReply (asked_of_board arguments b) answers reply
 
 -- ---- the command
 
@@ -45,7 +46,7 @@ pub record IsPartsReply (arguments : PartsArguments) (inputs : List Bytes) (repl
   pub answers : List Bytes
   pub order : inputs ≡ text ∷ answers
   pub count : AreParts arguments.count
-  pub said : reply ≡ parts_reply arguments (board_of_text text) answers
+  pub said : IsReplyOfParts arguments (board_of_text text) answers reply
 
 -- it takes memory to join parts, once the text spells a board
 abbrev pub TakesMemoryForParts : List Bytes → Type 0

@@ -1,84 +1,157 @@
 //! What is said of a bound in parts.
 
-ghost use Rattle.std.specs.Prelude.{◌≡◌, ◌<◌, false, filter, flat_map, length, not, slice_index_or, string_bytes, IfOk};
+ghost use Rattle.std.specs.Prelude.{◌≡◌, ◌≤◌, ◌<◌, ◌&&◌, ◌++◌, ℕ, false, filter, flat_map, length, not, slice_index_or, string_bytes, IfOk};
 ghost use Rattle.std.specs.List.{list_all, range_with_len};
-ghost use Rattle.claim_text.specs.Lines.{joined_line};
+ghost use Rattle.puz_board.specs.MovesTexts.{Solves};
+ghost use Rattle.claim_text.specs.Claims as claims;
+ghost use Rattle.claim_text.specs.Claims.{ShownClaim};
+ghost use Rattle.claim_text.specs.Lines.{joined_line, shorter, told_line};
 ghost use Rattle.claim_text.specs.Parts.{AreParts};
 ghost use Rattle.pdb_run.specs.Answers.{all_bytes};
-ghost use Rattle.pdb_parts.specs.Joining.{are_told, joined_text, open_claim, whole_lines};
-ghost use Rattle.pdb_parts.specs.Stored.{AreCountsOf, shown};
+ghost use Rattle.pdb_run.specs.Writing.{digests_of};
+ghost use Rattle.pdb_parts.specs.Joining.{open_claim, whole_lines};
+ghost use Rattle.pdb_parts.specs.Steps.{MarksLines};
+ghost use Rattle.pdb_parts.specs.Stored.{IsJoined, shown};
 
-use crate::marks::{BoundInParts, mark_all};
-use crate::skipped::LineCounts;
-use claim_text::{Asks, Claim, Line, claim_line, joined_line};
+use crate::beside::{BesideText, counts_text};
+use crate::marks::{BoundInParts, Marks, Told, mark_all};
+use claim_text::{Asks, Claim, Line, claim_line, joined_line, shorter_line};
 use move_strings::BoundPart;
+use puz_board::Board;
+use sha2::{Digest, Sha256};
 use std::alloc::{AllocError, Global};
 
-/// What is said of a bound in parts, whether that is that it holds, and the counts of the lines that were read.
+/// What is said of a bound in parts, whether that is that it holds, and what the errors are told beside it.
 #[derive(Debug, Drop)]
 pub struct Joined {
     pub text: String,
     pub is_yes: bool,
-    pub counts: LineCounts,
+    pub beside: BesideText,
 }
 
-/// What is said of a bound in parts where these texts of answer lines were read: that it holds, where of each part a whole line
-/// says so, or else the claims of the parts that are open.
+/// What is said of a bound in parts where these texts of answer lines were read: that it is false, where a whole line shows moves
+/// for that; that it holds, where of each part one says so; or else the claims of the parts that are open.
 pub fn join(alloc: Global, texts: &[Vec<u8>], asked: &BoundInParts) -> Result<Joined, AllocError>
     requires { AreParts asked.now.count }
-    ensures text { let lines = flat_map whole_lines (all_bytes texts.now) in
-        IfOk result (λ joined. string_bytes joined.text ≡ joined_text lines (shown asked.now)) }
-    ensures yes { let lines = flat_map whole_lines (all_bytes texts.now) in
-        IfOk result (λ joined. joined.is_yes ≡ are_told lines (shown asked.now)) }
-    ensures counts { let lines = flat_map whole_lines (all_bytes texts.now) in
-        IfOk result (λ joined. AreCountsOf joined.counts lines (shown asked.now)) }
+    ensures { IfOk result (λ joined. IsJoined joined (all_bytes texts.now) (shown asked.now)) }
 {
-    let marks = mark_all(alloc, texts, asked)?;
-    let counts = marks.counts;
-    if are_marked(marks.told.as_slice()) {
-        let text = bound_text(alloc, asked)?;
+    let told = mark_all(alloc, texts, asked)?;
+    match told {
+        Told::Against(moves) => {
+            let text = false_text(alloc, moves, &asked.board, asked.bound)?;
+            Ok(Joined {
+                text,
+                is_yes: false,
+                beside: BesideText::new(),
+            })
+        }
+        Told::Marked(marks) => join_marked(alloc, texts, &marks, asked),
+    }
+}
+
+/// What is said where these are the marks of the lines.
+fn join_marked(
+    alloc: Global,
+    texts: &[Vec<u8>],
+    marks: &Marks,
+    asked: &BoundInParts,
+) -> Result<Joined, AllocError>
+    requires parts { AreParts asked.now.count }
+    requires marks { MarksLines (shown asked.now) (flat_map whole_lines (all_bytes texts.now)) marks.now }
+    ensures { IfOk result (λ joined. IsJoined joined (all_bytes texts.now) (shown asked.now)) }
+{
+    let holds = marks.holds.as_slice();
+    let spent = count_spent(holds, marks.spent.as_slice());
+    let beside = counts_text(marks.counts, spent, asked.count);
+    if are_marked(holds) {
+        let text = bound_text(alloc, texts, asked)?;
         return Ok(Joined {
             text,
             is_yes: true,
-            counts,
+            beside,
         });
     }
-    let text = open_claims(alloc, marks.told.as_slice(), asked)?;
+    let text = open_claims(alloc, holds, asked)?;
     Ok(Joined {
         text,
         is_yes: false,
-        counts,
+        beside,
     })
 }
 
 /// Whether each part has a mark.
-fn are_marked(told: &[bool]) -> bool
-    ensures { result ≡ list_all (λ mark. mark) told.now }
+fn are_marked(holds: &[bool]) -> bool
+    ensures { result ≡ list_all (λ mark. mark) holds.now }
 {
-    told.iter().all(|mark| *mark)
+    holds.iter().all(|mark| *mark)
 }
 
-/// The line that the bound holds where its parts do.
-fn bound_text(alloc: Global, asked: &BoundInParts) -> Result<String, AllocError>
-    ensures { let line = joined_line asked.now.bound asked.now.count asked.now.board in
-        IfOk result (λ text. string_bytes text ≡ line) }
+/// How many parts have the second mark, and not the first.
+fn count_spent(holds: &[bool], spent: &[bool]) -> usize
+    requires { length spent.now ≡ length holds.now }
+    ensures { result ≡ length (filter (λ i. not (slice_index_or holds.now i false) && slice_index_or spent.now i false)
+        (range_with_len 0 (length holds.now))) }
 {
+    let mut count = 0;
+    for index in 0..holds.len() {
+        if holds[index] {
+            continue;
+        }
+        count += usize::from(spent[index]);
+    }
+    count
+}
+
+/// The line that says that moves show the bound of a board to be false.
+fn false_text(alloc: Global, moves: &[u8], board: &Board, bound: u8) -> Result<String, AllocError>
+    requires { (n : ℕ) × Solves board.now moves.now n × (n < bound) }
+    ensures { let claim : ShownClaim = record { board = board.now; asks = claims.bound bound } in
+        IfOk result (λ text. string_bytes text ≡ told_line (shorter moves.now claim)) }
+{
+    let claim = Claim {
+        board: *board,
+        asks: Asks::Bound(bound),
+    };
     let mut text = String::new(alloc);
+    text.push_str(shorter_line(moves, &claim).as_str())?;
+    Ok(text)
+}
+
+/// The digest lines of the texts, and the line of the bound behind them.
+fn bound_text(alloc: Global, texts: &[Vec<u8>], asked: &BoundInParts) -> Result<String, AllocError>
+    ensures { let line = joined_line asked.now.bound asked.now.count asked.now.board in
+        IfOk result (λ text. string_bytes text ≡ digests_of (all_bytes texts.now) ++ line) }
+{
+    let mut text = digest_lines(alloc, texts)?;
     text.push_str(joined_line(asked.bound, asked.count, &asked.board).as_str())?;
     Ok(text)
 }
 
+/// The digest line of each text.
+fn digest_lines(alloc: Global, texts: &[Vec<u8>]) -> Result<String, AllocError>
+    ensures { IfOk result (λ lines. string_bytes lines ≡ digests_of (all_bytes texts.now)) }
+{
+    let mut lines = String::new(alloc);
+    for text in texts {
+        let digest = hex::encode(alloc, Sha256::digest(text.as_slice()))?;
+        lines.push_str("sha256 ")?;
+        lines.push_str(digest.as_str())?;
+        lines.push_str("\n")?;
+    }
+    Ok(lines)
+}
+
 /// The lines of the claims that the parts hold which have no mark.
-fn open_claims(alloc: Global, told: &[bool], asked: &BoundInParts) -> Result<String, AllocError>
-    requires size { length told.now ≡ asked.now.count }
+fn open_claims(alloc: Global, holds: &[bool], asked: &BoundInParts) -> Result<String, AllocError>
+    requires size { length holds.now ≡ asked.now.count }
     requires parts { AreParts asked.now.count }
-    ensures { let left = filter (λ i. not (slice_index_or told.now i false))
+    ensures { let left = filter (λ i. not (slice_index_or holds.now i false))
         (range_with_len 0 asked.now.count) in
         IfOk result (λ text. string_bytes text ≡ flat_map (open_claim (shown asked.now)) left) }
 {
     let mut text = String::new(alloc);
     for index in 0..asked.count {
-        if told[usize::from(index)] {
+        if holds[usize::from(index)] {
             continue;
         }
         text.push_str(open_claim(index, asked).as_str())?;

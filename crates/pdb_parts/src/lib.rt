@@ -1,14 +1,16 @@
-//! The command `parts`: a bound, where lines say that each of its parts holds, or the parts that are still open.
+//! The command `parts`: a bound, where lines say that each of its parts holds; moves that show it to be false; or the parts that are
+//! still open.
 #![tactic(auto)]
 
+mod answers;
+mod beside;
 mod joining;
 pub mod laws;
 mod marks;
 mod runs;
-mod skipped;
 mod whole_lines;
 
+pub use beside::BesideText;
 pub use joining::{Joined, join};
 pub use marks::BoundInParts;
 pub use runs::run_parts;
-pub use skipped::LineCounts;

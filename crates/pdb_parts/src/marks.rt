@@ -1,16 +1,16 @@
-//! Which parts of a bound lines say to hold, and how many of the lines say so of none.
+//! What whole lines tell of a bound in parts.
 
-ghost use Rattle.std.specs.Prelude.{◌≡◌, ◌<◌, ◌||◌, ℕ, false, flat_map, length, slice_index_or, IfOk};
-ghost use Rattle.std.specs.Str.{bytes_eq};
+ghost use Rattle.std.specs.Prelude.{◌≡◌, ◌++◌, ◌<◌, ◌||◌, ℕ, List, Some, false, flat_map, length, slice_index_or, IfErr, IfOk, OnOk};
+ghost use Rattle.std.specs.List.{All};
 ghost use Rattle.claim_text.specs.Parts.{AreParts};
 ghost use Rattle.pdb_run.specs.Answers.{all_bytes};
-ghost use Rattle.pdb_parts.specs.Joining.{is_told, part_line, whole_lines};
-ghost use Rattle.pdb_parts.specs.Skipped.{tells_part};
-ghost use Rattle.pdb_parts.specs.Stored.{AreCountsOf, shown};
+ghost use Rattle.pdb_parts.specs.Joining.{AreFirstMoves, RefutesNot, whole_lines};
+ghost use Rattle.pdb_parts.specs.Steps.{TellsOfLines};
+ghost use Rattle.pdb_parts.specs.Stored.{AreCountsOf, AreMarksOf, IsBelow, holds_in, shown, spent_in};
 
-use crate::skipped::LineCounts;
+use crate::answers::{PartAnswer, read_answer};
+use crate::beside::LineCounts;
 use crate::whole_lines::split_whole_line;
-use claim_text::told_index;
 use puz_board::Board;
 use std::alloc::{AllocError, Global};
 
@@ -22,71 +22,107 @@ pub struct BoundInParts {
     pub count: u16,
 }
 
-/// Marks the part that a line says to hold, where it is one of this bound, and answers whether it is.
-fn mark_line(told: &mut [bool], line: &[u8], asked: &BoundInParts) -> bool
-    requires size { length told.old ≡ asked.now.count }
-    requires parts { AreParts asked.now.count }
-    ensures size { length told.new ≡ length told.old }
-    ensures marks { (i : ℕ) → i < asked.now.count → slice_index_or told.new i false
-        ≡ (slice_index_or told.old i false || bytes_eq line.now (part_line (shown asked.now) i)) }
-    ensures tells { result ≡ tells_part (shown asked.now) line.now }
+/// What lines tell of a bound in parts that shows no moves against it: a mark for each part that holds, and for each whose search
+/// a budget ended; and how many lines there are.
+#[derive(Drop)]
+pub(crate) struct Marks {
+    pub(crate) holds: Vec<bool>,
+    pub(crate) spent: Vec<bool>,
+    pub(crate) counts: LineCounts,
+}
+
+/// What lines tell of a bound in parts.
+#[derive(Drop)]
+pub(crate) enum Told<'t> {
+    /// The moves of this moves text show that it is false.
+    Against(&'t [u8]),
+    /// None do.
+    Marked(Marks),
+}
+
+/// Marks the part of which a line tells, where it tells of one.
+fn mark_part(holds: &mut [bool], spent: &mut [bool], answer: PartAnswer)
+    requires holds { IsBelow (length holds.old) answer }
+    requires spent { IsBelow (length spent.old) answer }
+    ensures holds_size { length holds.new ≡ length holds.old }
+    ensures spent_size { length spent.new ≡ length spent.old }
+    ensures holds { (i : ℕ) → i < length holds.old → slice_index_or holds.new i false
+        ≡ (slice_index_or holds.old i false || holds_in answer i) }
+    ensures spent { (i : ℕ) → i < length spent.old → slice_index_or spent.new i false
+        ≡ (slice_index_or spent.old i false || spent_in answer i) }
 {
-    match told_index(line, asked.count, asked.bound, &asked.board) {
-        Some(index) => {
-            told[usize::from(index)] = true;
-            true
-        }
-        None => false,
+    match answer {
+        PartAnswer::Holds(index) => holds[usize::from(index)] = true,
+        PartAnswer::Spent(index) => spent[usize::from(index)] = true,
+        PartAnswer::Other | PartAnswer::Skipped => {}
     }
 }
 
-/// Marks the parts that the whole lines of a text say to hold, and counts these lines.
-fn mark_text(told: &mut [bool], text: &[u8], asked: &BoundInParts) -> LineCounts
-    requires size { length told.old ≡ asked.now.count }
+/// Marks the parts of which the whole lines of a text tell, and counts these lines; up to the first that shows that the bound is
+/// false by moves, which are answered then.
+fn mark_text<'t>(
+    holds: &mut [bool],
+    spent: &mut [bool],
+    text: &'t [u8],
+    asked: &BoundInParts,
+) -> Result<LineCounts, &'t [u8]>
+    requires holds { length holds.old ≡ asked.now.count }
+    requires spent { length spent.old ≡ asked.now.count }
     requires parts { AreParts asked.now.count }
-    ensures size { length told.new ≡ length told.old }
-    ensures marks { (i : ℕ) → i < asked.now.count → slice_index_or told.new i false
-        ≡ (slice_index_or told.old i false || is_told (whole_lines text.now) (shown asked.now) i) }
-    ensures counts { AreCountsOf result (whole_lines text.now) (shown asked.now) }
+    ensures holds_size { length holds.new ≡ length holds.old }
+    ensures spent_size { length spent.new ≡ length spent.old }
+    ensures marks { (done : List (List ℕ)) → AreMarksOf holds.old spent.old done (shown asked.now)
+        → OnOk result (AreMarksOf holds.new spent.new (done ++ whole_lines text.now) (shown asked.now)) }
+    ensures counts { IfOk result (λ counts. AreCountsOf counts (whole_lines text.now) (shown asked.now)) }
+    ensures none { OnOk result (All (RefutesNot (shown asked.now)) (whole_lines text.now)) }
+    ensures first { IfErr result
+        (λ moves. AreFirstMoves (shown asked.now) (whole_lines text.now) (Some moves.now)) }
 {
     let mut counts = LineCounts { all: 0, skipped: 0 };
     let mut rest = text;
     while let Some((line, behind)) = split_whole_line(rest) {
-        let tells_part = mark_line(told, line, asked);
+        let answer = read_answer(line, asked)?;
+        mark_part(holds, spent, answer);
         counts.all += 1;
-        counts.skipped += usize::from(!tells_part);
+        counts.skipped += usize::from(answer.is_skip());
         rest = behind;
     }
-    counts
+    Ok(counts)
 }
 
-/// A mark for each part, and how many lines were gone over.
-#[derive(Drop)]
-pub(crate) struct Marks {
-    pub(crate) told: Vec<bool>,
-    pub(crate) counts: LineCounts,
-}
-
-/// A mark for each part: whether a whole line of the texts says that it holds. And the counts of these lines.
-pub(crate) fn mark_all(
+/// What the whole lines of texts tell.
+pub(crate) fn mark_all<'t>(
     alloc: Global,
-    texts: &[Vec<u8>],
+    texts: &'t [Vec<u8>],
     asked: &BoundInParts,
-) -> Result<Marks, AllocError>
-    requires parts { AreParts asked.now.count }
-    ensures size { IfOk result (λ marks. length marks.told.items ≡ asked.now.count) }
-    ensures marks { IfOk result (λ marks. (i : ℕ) → i < asked.now.count
-        → slice_index_or marks.told.items i false
-        ≡ is_told (flat_map whole_lines (all_bytes texts.now)) (shown asked.now) i) }
-    ensures counts { let lines = flat_map whole_lines (all_bytes texts.now) in
-        IfOk result (λ marks. AreCountsOf marks.counts lines (shown asked.now)) }
+) -> Result<Told<'t>, AllocError>
+    requires { AreParts asked.now.count }
+    ensures { let lines = flat_map whole_lines (all_bytes texts.now) in
+        IfOk result (TellsOfLines (shown asked.now) lines) }
 {
-    let mut told = vec![in alloc; false; usize::from(asked.count)]?;
+    let mut holds = vec![in alloc; false; usize::from(asked.count)]?;
+    let mut spent = vec![in alloc; false; usize::from(asked.count)]?;
     let mut counts = LineCounts { all: 0, skipped: 0 };
     for text in texts {
-        let more = mark_text(told.as_mut_slice(), text.as_slice(), asked);
-        // No memory holds more lines than can be counted.
-        counts = counts.and(more).ok_or(AllocError)?;
+        let marked = mark_text(
+            holds.as_mut_slice(),
+            spent.as_mut_slice(),
+            text.as_slice(),
+            asked,
+        );
+        let more = match marked {
+            Ok(more) => more,
+            Err(moves) => return Ok(Told::Against(moves)),
+        };
+        let Some(both) = counts.and(more) else {
+            // No memory holds more lines than can be counted.
+            return Err(AllocError);
+        };
+        counts = both;
     }
-    Ok(Marks { told, counts })
+    Ok(Told::Marked(Marks {
+        holds,
+        spent,
+        counts,
+    }))
 }

@@ -8,13 +8,13 @@ ghost use Rattle.pdb_run.specs.Ended.{HasItsStatus, status_by};
 ghost use Rattle.pdb_run.specs.Inputs.{wanted_of};
 ghost use Rattle.pdb_run.specs.Io.{IsSaid};
 ghost use Rattle.pdb_run.specs.Runs.{Ends, status_of_reply};
+ghost use Rattle.pdb_parts.specs.Beside.{TellsOfAnswers};
 ghost use Rattle.pdb_parts.specs.Parts.{an_answers_text, parts_plan};
-ghost use Rattle.pdb_parts.specs.Skipped.{TellsSkipped, skipped_text};
 ghost use Rattle.pdb_parts.specs.Steps.{TellsBeside, reading_plan};
 
+use crate::beside::tell;
 use crate::joining::{Joined, join};
 use crate::marks::BoundInParts;
-use crate::skipped::tell_skipped;
 use pdb_request::JoinParts;
 use pdb_run::{
     Answered, Cause, Command, Digested, Ended, Input, Io, Status, conclude, read_inputs,
@@ -88,7 +88,7 @@ fn with_bytes(
 }
 
 /// A whole run of `parts`, without threads: it returns where its shelf, its reader and its writers do. Once its answer is written,
-/// it tells on the errors of lines that it skipped.
+/// it tells on the errors of lines that it skipped, and of parts that a budget ended.
 #[inline(never)] // so that the stack has the values of one command alone
 pub fn run_parts<'n, I: Io, E: Write>(
     alloc: Global,
@@ -102,7 +102,7 @@ pub fn run_parts<'n, I: Io, E: Write>(
     ensures ends { let plan = parts_plan (parts_shown asked.now) in
         Ends plan (I.world io.old) (I.world io.new) result.status }
     ensures told { let old_err = E.contents err.old in let new_err = E.contents err.new in
-        TellsSkipped (parts_shown asked.now) (I.world io.old) old_err new_err result.status }
+        TellsOfAnswers (parts_shown asked.now) (I.world io.old) old_err new_err result.status }
 {
     let reading = Reading(asked);
     let read = match read_inputs(alloc, &reading, io) {
@@ -131,18 +131,18 @@ pub fn run_parts<'n, I: Io, E: Write>(
     }
 }
 
-/// Says what comes of parts, and then tells of the lines that were skipped.
+/// Says what comes of parts, and then tells what is told beside it.
 fn say_joined<'n, I: Io, E: Write>(joined: &Joined, io: &mut I, err: &mut E) -> Ended<'n, Fault>
     ensures caused { HasItsStatus result }
     ensures same_streams { I.streams io.new ≡ I.streams io.old }
     ensures said { let status = status_of_reply joined.now.is_yes in
         IsSaid (string_bytes joined.now.text) status (I.world io.old) (I.world io.new) result.status }
-    ensures told { let text = skipped_text joined.now.counts.skipped joined.now.counts.all in
+    ensures told { let text = joined.now.beside.bytes in
         TellsBeside text (E.contents err.old) (E.contents err.new) result.status }
 {
     let ended = say_text(joined.text.as_str(), cause_in(joined), io);
     if matches!(ended.status, Status::Yes | Status::Refused) {
-        tell_skipped(joined.counts, err);
+        tell(joined.beside.as_str(), err);
     }
     ended
 }

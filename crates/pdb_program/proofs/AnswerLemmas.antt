@@ -1,14 +1,15 @@
 -- What a run of a command that answers once writes: lines that say no yes, and a last line.
-use Rattle.std.proofs.Common.{◌≡◌, ◌∙◌, ◌*◌, ◌<◌, ◌≤◌, ◌&&◌, ap, ℕ, suc, Bool, true, false, List, [], ◌∷◌, ◌++◌, Some, Ok, Err, Result, append_assoc}
+use Rattle.std.proofs.Common.{◌≡◌, ◌∙◌, ◌*◌, ◌<◌, ◌≤◌, ◌&&◌, ap, ℕ, suc, Bool, true, false, List, [], ◌∷◌, ◌++◌, None, Option, Some, Ok, Err, Result, append_assoc}
 use Rattle.std.proofs.Common.{arith, codes, cond, decimal, filter, flat_map, length, lit<, map, not, refl, subst, sym}
 use Rattle.std.proofs.lemmas.List.{append-nil}
 use Rattle.std.proofs.lemmas.List.Elements.{All-cons, All-nil}
 use Rattle.std.specs.Prelude.{◌==◌, ◌≢◌}
 use Rattle.std.specs.List.{list_all, range_with_len}
-use Rattle.claim_text.specs.Claims.{HasNo, ShownAsks, part}
-use Rattle.claim_text.specs.Lines.{asks_words, bounded, claim_line, joined_line, numbers, told_text}
+use Rattle.claim_text.specs.Claims as claims
+use Rattle.claim_text.specs.Claims.{HasNo, ShownAsks, ShownClaim, part}
+use Rattle.claim_text.specs.Lines.{asks_words, claim_line, claim_words, joined_line, numbers, shorter, spaced_letters, told_line, told_text}
 use Rattle.claim_text.specs.Parts.{part_at}
-use Rattle.claim_text.proofs.AnswerLemmas.{answer-no_lf, claim-no_lf, decimal-no_lf, join_no_lf, no_side}
+use Rattle.claim_text.proofs.AnswerLemmas.{answer-no_lf, claim-no_lf, decimal-no_lf, join_no_lf, no_side, numbers-no_lf}
 use Rattle.claim_text.proofs.CutLemmas.{other_rest}
 use Rattle.puz_board.specs.Boards.{IsBoard, side_of}
 use Rattle.puz_board.specs.BoardTexts.{board_of_text}
@@ -39,11 +40,11 @@ use Rattle.pdb_verdict.specs.declared.verdicts.Verdict.{Verdict}
 use Rattle.pdb_verdict.specs.declared.verdicts.Verdict.TheVariants as verdict
 use Rattle.pdb_keep.specs.MakeTable.{Build, built, reply_to_build, unbuilt}
 use Rattle.pdb_keep.specs.Solve.{SearchOutcome, letter_of, letters_of, moves_line, reply_to_search, searched, unmade}
-use Rattle.pdb_parts.specs.Joining.{ShownBoundInParts, are_told, is_told, open_claim, open_claims, whole_lines}
-use Rattle.pdb_parts.specs.Parts.{IsPartsReply, asked_of_board, joined_reply, parts_reply}
+use Rattle.pdb_parts.specs.Joining.{ShownBoundInParts, are_told, bound_reply, is_told, joined_reply, open_claim, open_reply, whole_lines}
+use Rattle.pdb_parts.specs.Parts.{IsPartsReply, IsReplyOfParts, asked_of_board}
 use Rattle.pdb_program.specs.Programs.{plan_of}
 use Rattle.pdb_program.proofs.ElseLemmas.{IsElseLine, IsOfNoYes, SaysElse, SaysNoYes, digest_no_yes, digests_are, else_alone, else_no_yes, fault_line}
-use Rattle.pdb_program.proofs.ElseLemmas.{known, maker, memory, named, says_else, with_number}
+use Rattle.pdb_program.proofs.ElseLemmas.{known, maker, memory, named, refused_whole, says_else, with_number}
 use Rattle.pdb_program.proofs.LineLemmas.{joined_lines}
 use Rattle.pdb_program.proofs.SpellLemmas.{digit_first}
 
@@ -171,6 +172,7 @@ else_moves behind one = (
   (λ e. omega (arith, e)),
   (λ e. omega (arith, e)),
   (λ e. omega (arith, e)),
+  (λ e. omega (arith, e)),
   join_no_lf (codes "moves") behind (known (codes "moves") refl) one,
 )
 
@@ -195,19 +197,22 @@ search_answer tables (searched moves log n) =
 
 -- the words of the line of a bound in parts
 abbrev pub joined_words : (n count : ℕ) → List ℕ → Bytes
-joined_words n count b = codes "bound " ++ decimal n ++ codes " of" ++ numbers b ++ codes " from " ++ decimal count ++ codes " parts"
+joined_words n count b =
+    codes "joined bound " ++ decimal n ++ codes " of" ++ numbers b ++ codes " from " ++ decimal count ++ codes " parts, by lines that were read"
 
 -- they are one line
 pub joined_one : (n count : ℕ) (b : List ℕ) → HasNo 10 (joined_words n count b)
 joined_one n count b =
-    let bound = told_text (bounded n b) in
-    let front = bound ++ codes " from " in
-    let one = join_no_lf bound (codes " from ") (answer-no_lf (bounded n b) tt) (known (codes " from ") refl) in
-    join_no_lf (front ++ decimal count) (codes " parts") (join_no_lf front (decimal count) one (decimal-no_lf count)) (known (codes " parts") refl)
+    let bound = with_number (codes "joined bound ") n refl in
+    let board = join_no_lf _ (numbers b) (join_no_lf _ (codes " of") bound (known (codes " of") refl)) (numbers-no_lf b) in
+    let front = join_no_lf _ (decimal count) (join_no_lf _ (codes " from ") board (known (codes " from ") refl)) (decimal-no_lf count) in
+    join_no_lf _ (codes " parts, by lines that were read") front (known (codes " parts, by lines that were read") refl)
 
 -- which their end makes whole
 pub joined_ended : (n count : ℕ) (b : List ℕ) → joined_line n count b ≡ joined_words n count b ++ codes "\n"
-joined_ended n count b = sym (append_assoc (told_text (bounded n b) ++ codes " from " ++ decimal count) (codes " parts") (codes "\n"))
+joined_ended n count b =
+    sym (append_assoc (codes "joined bound " ++ decimal n ++ codes " of" ++ numbers b ++ codes " from " ++ decimal count)
+    (codes " parts, by lines that were read") (codes "\n"))
 
 digit_other : (digit letter : ℕ) → digit ≤ 57 → 57 < letter → digit ≢ letter
 digit_other digit letter low high = λ same. omega (arith, low, high, same)
@@ -226,8 +231,15 @@ claim_else (n ∷ b) asks board =
     let other = λ (letter : ℕ) (high : 57 < letter). digit_other digit.0 letter digit.4 high in (
       words,
       refl,
-      subst SaysElse (sym begins)
-          (other 115 (lit< tt), other 101 (lit< tt), other 98 (lit< tt), other 111 (lit< tt), other 112 (lit< tt), subst (HasNo 10) begins one),
+      subst SaysElse (sym begins) (
+        other 115 (lit< tt),
+        other 101 (lit< tt),
+        other 98 (lit< tt),
+        other 111 (lit< tt),
+        other 106 (lit< tt),
+        other 112 (lit< tt),
+        subst (HasNo 10) begins one,
+      ),
     )
 
 module _ (asked : ShownBoundInParts) (board : IsBoard asked.board) where
@@ -257,27 +269,34 @@ some_fail passes (x ∷ all) none = go (passes x) none (some_fail passes all)
     go true none later = later none
     go false none later = (x, filter (λ x. not (passes x)) all, refl)
 
--- the bound is told in one line, and what is open in such lines
-joined_answer : (answers : List Bytes) (asked : ShownBoundInParts) → IsBoard asked.board → IsAnswerReply (joined_reply answers asked)
-joined_answer answers asked board = go (are_told (flat_map whole_lines answers) asked) refl
+-- the bound is told in one line behind digests, and what is open in such lines
+joined_answer : (answers : List Bytes) (asked : ShownBoundInParts) (moves : Option (List ℕ)) → IsBoard asked.board
+    → IsAnswerReply (joined_reply answers asked moves)
+joined_answer answers asked (Some moves) board =
+    let claim : ShownClaim = record { board = asked.board; asks = claims.bound asked.bound } in
+    let words = codes "O2 by" ++ spaced_letters moves ++ codes " of" ++ claim_words claim in
+    else_answer (told_line (shorter moves claim)) _ (told_text (shorter moves claim), refl, refused_whole words (answer-no_lf (shorter moves claim) tt))
+joined_answer answers asked None board = go (are_told (flat_map whole_lines answers) asked) refl
   where
     go : (told : Bool) → are_told (flat_map whole_lines answers) asked ≡ told
-        → IsAnswerText (cond told (joined_line asked.bound asked.count asked.board) (open_claims (flat_map whole_lines answers) asked)) (status_of_reply told)
+        → IsAnswerReply (cond told (bound_reply answers asked) (open_reply answers asked))
     go true is =
         let words = joined_words asked.bound asked.count asked.board in
         let last = line_last words (joined_one asked.bound asked.count asked.board) in
-        yes_answer words _ (subst (IsLast words) (sym (joined_ended asked.bound asked.count asked.board)) last)
+        digested answers [] _ Yes (yes_answer words _ (subst (IsLast words) (sym (joined_ended asked.bound asked.count asked.board)) last))
     go false is =
         let left = some_fail (is_told (flat_map whole_lines answers) asked) (range_with_len 0 asked.count) is in
         subst (λ (indices : List ℕ). IsAnswerText (flat_map (open_claim asked) indices) (status_of_reply false)) (sym left.2)
         (open_answer asked board left.0 left.1 (status_of_reply false))
 
 parts_answer : (arguments : PartsArguments) (inputs : List Bytes) (reply : Reply) → IsPartsReply arguments inputs reply → IsAnswerReply reply
-parts_answer arguments inputs reply is = subst IsAnswerReply (sym is.said) (go (board_of_text is.text) refl)
+parts_answer arguments inputs reply is = go (board_of_text is.text) refl is.said
   where
-    go : (r : Result (List ℕ) BoardFault) → board_of_text is.text ≡ r → IsAnswerReply (parts_reply arguments r is.answers)
-    go (Err refused) same = digested [] [] _ _ (else_answer (line_of_fault (fault.Board refused)) _ (fault_line (fault.Board refused)))
-    go (Ok b) same = joined_answer is.answers (asked_of_board arguments b) (spelled-board_of_text is.text b same).board
+    go : (r : Result (List ℕ) BoardFault) → board_of_text is.text ≡ r → IsReplyOfParts arguments r is.answers reply → IsAnswerReply reply
+    go (Err refused) same said =
+        subst IsAnswerReply (sym said) (digested [] [] _ _ (else_answer (line_of_fault (fault.Board refused)) _ (fault_line (fault.Board refused))))
+    go (Ok b) same said =
+        subst IsAnswerReply (sym said.is) (joined_answer is.answers (asked_of_board arguments b) said.moves (spelled-board_of_text is.text b same).board)
 
 -- ---- whatever a run comes to
 

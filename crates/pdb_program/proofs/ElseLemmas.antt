@@ -31,11 +31,12 @@ use Rattle.pdb_program.proofs.LineLemmas.{IsOfLines, joined_lines, line_alone}
 abbrev pub SaysNoYes : Bytes → Type 0
 SaysNoYes line = ¬ SaysYes line
 
--- the words are of one line, and begin with another letter than the words of a yes do, `s`, `e`, `b` or `o`, and with another than the
--- line of a part does, `p`
+-- the words are of one line, and begin with another letter than the words of a yes do, `s`, `e`, `b`, `o` or `j`, and with another
+-- than the line of a part does, `p`
 abbrev pub SaysElse : Bytes → Type 0
 SaysElse [] = ⊥
-SaysElse (first ∷ rest) = (first ≢ 115) × (first ≢ 101) × (first ≢ 98) × (first ≢ 111) × (first ≢ 112) × HasNo 10 (first ∷ rest)
+SaysElse (first ∷ rest) =
+    (first ≢ 115) × (first ≢ 101) × (first ≢ 98) × (first ≢ 111) × (first ≢ 106) × (first ≢ 112) × HasNo 10 (first ∷ rest)
 
 head_of : ℕ → Bytes → ℕ
 head_of d [] = d
@@ -53,13 +54,14 @@ else_no_yes (first ∷ words) behind says = λ yes. elim yes.1 [
   | inl e ↦ says.0 (ap (head_of 0) e)
   | inr (inl e) ↦ says.1 (ap (head_of 0) e)
   | inr (inr (inl e)) ↦ says.2 (ap (head_of 0) e)
-  | inr (inr (inr e)) ↦ says.3 (ap (head_of 0) e)
+  | inr (inr (inr (inl e))) ↦ says.3 (ap (head_of 0) e)
+  | inr (inr (inr (inr e))) ↦ says.4 (ap (head_of 0) e)
 ]
 
 -- such words are of one line
 pub says_else : (words : Bytes) → SaysElse words → HasNo 10 words
 says_else [] says = absurd says
-says_else (first ∷ words) says = says.5
+says_else (first ∷ words) says = says.6
 
 -- what begins with another letter is no line of a part
 pub other_no_part : (first : ℕ) (rest : Bytes) → first ≢ 112 → ¬ SaysPart (first ∷ rest)
@@ -69,7 +71,7 @@ other_no_part first rest other says = other (ap (head_of 0) says.1)
 -- so such words say no part, whatever stands behind them
 pub else_no_part : (words behind : Bytes) → SaysElse words → ¬ SaysPart (words ++ behind)
 else_no_part [] behind says = absurd says
-else_no_part (first ∷ words) behind says = other_no_part first (words ++ behind) says.4
+else_no_part (first ∷ words) behind says = other_no_part first (words ++ behind) says.5
 
 -- a line of a part says no yes
 pub part_no_yes : (rest : Bytes) → SaysNoYes (codes "part " ++ rest)
@@ -78,7 +80,8 @@ part_no_yes rest = λ yes. elim yes.1 [
   | inl e ↦ let first : 112 ≡ 115 = ap (head_of 0) e in absurd (omega (arith, first))
   | inr (inl e) ↦ let first : 112 ≡ 101 = ap (head_of 0) e in absurd (omega (arith, first))
   | inr (inr (inl e)) ↦ let first : 112 ≡ 98 = ap (head_of 0) e in absurd (omega (arith, first))
-  | inr (inr (inr e)) ↦ let first : 112 ≡ 111 = ap (head_of 0) e in absurd (omega (arith, first))
+  | inr (inr (inr (inl e))) ↦ let first : 112 ≡ 111 = ap (head_of 0) e in absurd (omega (arith, first))
+  | inr (inr (inr (inr e))) ↦ let first : 112 ≡ 106 = ap (head_of 0) e in absurd (omega (arith, first))
 ]
 
 -- nor does the line of a digest
@@ -88,7 +91,8 @@ digest_no_yes digest = λ yes. elim yes.1 [
   | inl e ↦ let second : 104 ≡ 111 = ap second_of e in absurd (omega (arith, second))
   | inr (inl e) ↦ let first : 115 ≡ 101 = ap (head_of 0) e in absurd (omega (arith, first))
   | inr (inr (inl e)) ↦ let first : 115 ≡ 98 = ap (head_of 0) e in absurd (omega (arith, first))
-  | inr (inr (inr e)) ↦ let first : 115 ≡ 111 = ap (head_of 0) e in absurd (omega (arith, first))
+  | inr (inr (inr (inl e))) ↦ let first : 115 ≡ 111 = ap (head_of 0) e in absurd (omega (arith, first))
+  | inr (inr (inr (inr e))) ↦ let first : 115 ≡ 106 = ap (head_of 0) e in absurd (omega (arith, first))
 ]
 
 -- the line has words that say no yes
@@ -100,15 +104,19 @@ pub known : (text : Bytes) → list_all (λ b. not (eqb b 10)) text ≡ true →
 known text all = AllPass-from_list_all (λ b. not (eqb b 10)) text all
 
 -- a refusal begins with the letter r, whose byte is 114
-refused_else : (words : Bytes) → HasNo 10 words → SaysElse (codes "refused " ++ words)
-refused_else words none = (
+pub refused_whole : (words : Bytes) → HasNo 10 (codes "refused " ++ words) → SaysElse (codes "refused " ++ words)
+refused_whole words none = (
   (λ e. omega (arith, e)),
   (λ e. omega (arith, e)),
   (λ e. omega (arith, e)),
   (λ e. omega (arith, e)),
   (λ e. omega (arith, e)),
-  join_no_lf (codes "refused ") words (known (codes "refused ") refl) none,
+  (λ e. omega (arith, e)),
+  none,
 )
+
+refused_else : (words : Bytes) → HasNo 10 words → SaysElse (codes "refused " ++ words)
+refused_else words none = refused_whole words (join_no_lf (codes "refused ") words (known (codes "refused ") refl) none)
 
 refused_line : (words : Bytes) → HasNo 10 words → IsElseLine ((codes "refused " ++ words) ++ codes "\n")
 refused_line words none = (codes "refused " ++ words, refl, refused_else words none)
@@ -144,6 +152,7 @@ memory = (
     (λ e. omega (arith, e)),
     (λ e. omega (arith, e)),
     (λ e. omega (arith, e)),
+    (λ e. omega (arith, e)),
     known (codes "no memory") refl,
   ),
 )
@@ -154,6 +163,7 @@ maker = (
   codes "fault maker",
   refl,
   (
+    (λ e. omega (arith, e)),
     (λ e. omega (arith, e)),
     (λ e. omega (arith, e)),
     (λ e. omega (arith, e)),
@@ -237,6 +247,7 @@ named text name all = (
   codes "fault " ++ (text ++ shown name),
   ap (λ (t : Bytes). codes "fault " ++ t) (sym (append_assoc text (shown name) (codes "\n"))),
   (
+    (λ e. omega (arith, e)),
     (λ e. omega (arith, e)),
     (λ e. omega (arith, e)),
     (λ e. omega (arith, e)),

@@ -158,7 +158,7 @@ module _ (before later : Files) (input start lines : Bytes) (calls calls_after :
       record {
         line = codes "optimal " ++ decimal n;
         is_last = all.4 _ _ all.3.2 (counted_last (codes "optimal ") n (known (codes "optimal ") refl));
-        says = (codes " " ++ decimal n, inr (inr (inr refl)));
+        says = (codes " " ++ decimal n, inr (inr (inr (inl refl))));
         holds = (files.text, n, all.3.1.solved, read.text, refl, all.3.1.least.bounded);
       }
   yes_by (make_table arguments) once a =
@@ -203,7 +203,7 @@ module _ (before later : Files) (input start lines : Bytes) (calls calls_after :
       record {
         line = line;
         is_last = is_last;
-        says = (codes " " ++ decimal n, inr (inr (inr refl)));
+        says = (codes " " ++ decimal n, inr (inr (inr (inl refl))));
         holds = (
           f.board_text,
           f.board,
@@ -231,13 +231,17 @@ module _ (before later : Files) (input start lines : Bytes) (calls calls_after :
       let said = yes_says arguments a.inputs a.reply is (says a.reply.is_yes true a.is_status) in
       let read = rw is.order at a.right.0 in
       let words = joined_words arguments.bound arguments.count said.board in
-      let one = joined_one arguments.bound arguments.count said.board in
-      let whole : lines ≡ words ++ codes "\n" =
-      append_cancel_left start lines _ a.lines.0 ∙ said.line ∙ joined_ended arguments.bound arguments.count said.board in
+      let is_last : IsLast words lines = record {
+        above = digests_of is.answers;
+        whole = append_cancel_left start lines _ a.lines.0 ∙ said.line
+            ∙ ap (λ (t : Bytes). digests_of is.answers ++ t) (joined_ended arguments.bound arguments.count said.board);
+        none = digests_say_no_yes is.answers;
+        one = joined_one arguments.bound arguments.count said.board;
+      } in
       record {
         line = words;
-        is_last = subst (IsLast words) (sym whole) (line_last words one);
-        says = (_, inr (inr (inl refl)));
+        is_last = is_last;
+        says = (_, inr (inr (inr (inr refl))));
         holds = (
           is.text,
           numbers said.board,
@@ -248,6 +252,7 @@ module _ (before later : Files) (input start lines : Bytes) (calls calls_after :
           refl,
           is.answers,
           files_stood before (left (Some input) arguments.board) (2 ^ 26) arguments.answers is.answers read.1,
+          refl,
           said.bounded,
         );
       }
@@ -335,6 +340,7 @@ module _ (before later : Files) (input start lines : Bytes) (calls calls_after :
       record {
         lines_true = λ above line below has says.
             yes_is_true asked (yes (zero (found above line below has says).1)) above line below has says;
+        parts_true = λ a same. absurd (once a same);
         last = λ above line below has says _. ((found above line below has says).0, zero (found above line below has says).1);
         yes = λ is_zero. once_yes asked once (yes_is_there asked (yes is_zero));
         no = no_told_by asked number ended;
@@ -346,6 +352,7 @@ module _ (before later : Files) (input start lines : Bytes) (calls calls_after :
       → Headline (prove a) before later input lines number
   prove_told a number ended = record {
     lines_true = claims_true start lines a old new ended.0 ended.2 refl refl;
+    parts_true = λ b same. part_lines_true start lines a old new ended.0 ended.2 refl refl;
     last = λ above line below has says once. absurd (once a refl);
     yes = λ zero.
         let answered = answered_by (prove a) old new true number ended zero in

@@ -1,6 +1,7 @@
 mod AnswerLemmas
 mod ElseLemmas
 mod HeadlineLemmas
+mod JoinLemmas
 mod LineLemmas
 mod ProgramLemmas
 mod SpellLemmas

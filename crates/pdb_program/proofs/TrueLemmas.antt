@@ -1,5 +1,5 @@
 -- What the lines of `prove` say is true.
-use Rattle.std.proofs.Common.{◌≡◌, ◌∙◌, ◌⊎◌, ◌-◌, ◌+◌, inl, inr, ap, ℕ, Bool, true, false, List, [], ◌∷◌, ◌++◌, Some, None, append_assoc, arith}
+use Rattle.std.proofs.Common.{◌≡◌, ◌∙◌, ◌⊎◌, ◌-◌, ◌+◌, ◌≤◌, inl, inr, ap, ℕ, Bool, true, false, List, [], ◌∷◌, ◌++◌, Some, None, append_assoc, arith}
 use Rattle.std.proofs.Common.{codes, drop, length, length-append, refl, subst, sym, take, take-append-drop}
 use Rattle.std.proofs.lemmas.Bool.{and_parts}
 use Rattle.std.proofs.lemmas.List.{append-nil, append_cancel_left, take_at}
@@ -14,7 +14,7 @@ use Rattle.puz_board.specs.Boards.{IsBoard}
 use Rattle.puz_board.specs.MovesTexts.{Solves}
 use Rattle.set_sum.specs.Bounds.{IsBounded}
 use Rattle.puz_search.specs.Guides.{ShownGuide}
-use Rattle.move_strings.specs.BoundParts.{IsPartBounded}
+use Rattle.move_strings.specs.BoundParts.{IsPart, IsPartBounded}
 use Rattle.set_sum.specs.Bundles.{ShownBundle}
 use Rattle.byte_io.specs.Shelf.{Bytes}
 use Rattle.byte_io.specs.Streams.{AppendsFront, Output}
@@ -52,7 +52,7 @@ without_end line words is =
 -- what is known of what is told: the boards are boards, and a yes is true; what is told else is no yes
 abbrev IsTrueTold : Told → Type 0
 IsTrueTold (line.bounded n b) = IsBoard b × IsBounded b n
-IsTrueTold (line.part_bounded p n b) = IsBoard b × IsPartBounded p n b
+IsTrueTold (line.part_bounded p n b) = IsBoard b × IsPartBounded p n b × IsPart p × (n ≤ 255)
 IsTrueTold (line.optimal n b moves) = IsBoard b × Solves b moves n × IsBounded b n
 IsTrueTold (line.shorter solution claim) = ⊤
 IsTrueTold (line.refused what claim) = SaysElse what
@@ -62,15 +62,22 @@ refused_words : (refused : Fault) → SaysElse (words_of refused)
 refused_words refused =
     let line = fault_line refused in subst SaysElse (sym (without_end (line_of_fault refused) line.0 line.1)) line.2
 
--- the board of each claim is one
-abbrev HaveBoards : List ShownClaim → Type 0
-HaveBoards all = AllByRecursion (λ claim. IsBoard claim.board) all
+-- where something is said of a part, it is one, of a bound that is at most 255
+abbrev IsOfPart : ShownAsks → Type 0
+IsOfPart claims.shortest = ⊤
+IsOfPart (claims.moves text) = ⊤
+IsOfPart (claims.bound n) = ⊤
+IsOfPart (claims.part n p) = IsPart p × (n ≤ 255)
 
-claim_board : (line b : List ℕ) (asks : ShownAsks) → IsClaimOf line b asks → IsBoard b
-claim_board line b claims.shortest is = is.board.board
-claim_board line b (claims.moves text) is = is.board.board
-claim_board line b (claims.bound n) is = is.board.board
-claim_board line b (claims.part n p) is = is.board.board
+-- so it is with each claim, and its board is one
+abbrev HaveBoards : List ShownClaim → Type 0
+HaveBoards all = AllByRecursion (λ claim. IsBoard claim.board × IsOfPart claim.asks) all
+
+claim_board : (line b : List ℕ) (asks : ShownAsks) → IsClaimOf line b asks → IsBoard b × IsOfPart asks
+claim_board line b claims.shortest is = (is.board.board, tt)
+claim_board line b (claims.moves text) is = (is.board.board, tt)
+claim_board line b (claims.bound n) is = (is.board.board, tt)
+claim_board line b (claims.part n p) is = (is.board.board, (is.spelt.is, is.spelt.small))
 
 claims_boards : (lines : List Bytes) (all : List ShownClaim) → AllZip IsClaim lines all → HaveBoards all
 claims_boards [] [] each = tt
@@ -84,14 +91,15 @@ first_boards (claim ∷ first) others boards = (boards.0, first_boards first oth
 
 module _ (guide : ShownGuide) (budget : ℕ) where
   -- what is found for what a claim asks is told truly
-  found_true : (b : List ℕ) (asks : ShownAsks) (found : Finding) → IsBoard b → IsFoundOf guide budget b asks found → IsTrueTold (told_of b asks found)
-  found_true b (claims.bound r) Bound board is = (board, is.1.0)
+  found_true : (b : List ℕ) (asks : ShownAsks) (found : Finding) → IsBoard b × IsOfPart asks → IsFoundOf guide budget b asks found
+      → IsTrueTold (told_of b asks found)
+  found_true b (claims.bound r) Bound board is = (board.0, is.1.0)
   found_true b (claims.bound r) (Optimum n) board is = absurd is
   found_true b (claims.bound r) (Shortest n letters) board is = absurd is
   found_true b (claims.bound r) (Shorter letters) board is = tt
   found_true b (claims.bound r) (Refused refused) board is = refused_words refused
   found_true b (claims.bound r) Part board is = absurd is
-  found_true b (claims.part r p) Part board is = (board, is.1.0)
+  found_true b (claims.part r p) Part board is = (board.0, is.1.0, board.1.0, board.1.1)
   found_true b (claims.part r p) Bound board is = absurd is
   found_true b (claims.part r p) (Optimum n) board is = absurd is
   found_true b (claims.part r p) (Shortest n letters) board is = absurd is
@@ -100,13 +108,13 @@ module _ (guide : ShownGuide) (budget : ℕ) where
   found_true b (claims.moves text) Part board is = absurd is
   found_true b claims.shortest Part board is = absurd is
   found_true b (claims.moves text) Bound board is = absurd is
-  found_true b (claims.moves text) (Optimum n) board is = (board, is.0, is.2.1.0)
+  found_true b (claims.moves text) (Optimum n) board is = (board.0, is.0, is.2.1.0)
   found_true b (claims.moves text) (Shortest n letters) board is = absurd is
   found_true b (claims.moves text) (Shorter letters) board is = tt
   found_true b (claims.moves text) (Refused refused) board is = refused_words refused
   found_true b claims.shortest Bound board is = absurd is
   found_true b claims.shortest (Optimum n) board is = absurd is
-  found_true b claims.shortest (Shortest n letters) board is = (board, is.0, is.1)
+  found_true b claims.shortest (Shortest n letters) board is = (board.0, is.0, is.1)
   found_true b claims.shortest (Shorter letters) board is = absurd is
   found_true b claims.shortest (Refused refused) board is = refused_words refused
 
@@ -150,6 +158,7 @@ yes_of_told (line.shorter solution claim) is says =
       (λ e. omega (arith, e)),
       (λ e. omega (arith, e)),
       (λ e. omega (arith, e)),
+      (λ e. omega (arith, e)),
       known (codes "refused") refl,
     )
 yes_of_told (line.refused what claim) is says =
@@ -158,7 +167,7 @@ yes_of_told (line.refused what claim) is says =
 -- and what a line of a part does
 part_of_told : (t : Told) → IsTrueTold t → SaysPart (told_text t) → HoldsOfPart (told_text t)
 part_of_told (line.bounded n b) is says = absurd (other_no_part 98 _ (λ e. omega (arith, e)) says)
-part_of_told (line.part_bounded p n b) is says = (p, n, numbers b, b, numbers_spelt b is.0, is.1, refl)
+part_of_told (line.part_bounded p n b) is says = (p, n, numbers b, b, is.2, is.3, numbers_spelt b is.0, is.1, refl)
 part_of_told (line.optimal n b text) is says = absurd (other_no_part 111 _ (λ e. omega (arith, e)) says)
 part_of_told (line.shorter solution claim) is says = absurd (other_no_part 114 _ (λ e. omega (arith, e)) says)
 part_of_told (line.refused what claim) is says =
@@ -309,7 +318,7 @@ told_yes (t ∷ told) all =
     one (line.part_bounded p n b) is =
         line_alone IsYesOrDigest (told_text (line.part_bounded p n b)) (answer-no_lf (line.part_bounded p n b) tt) (inr (_, inl refl))
     one (line.optimal n b moves) is =
-        line_alone IsYesOrDigest (told_text (line.optimal n b moves)) (answer-no_lf (line.optimal n b moves) tt) (inl (_, inr (inr (inr refl))))
+        line_alone IsYesOrDigest (told_text (line.optimal n b moves)) (answer-no_lf (line.optimal n b moves) tt) (inl (_, inr (inr (inr (inl refl)))))
     one (line.shorter solution claim) is = let clash : false ≡ true = is in cc
     one (line.refused what claim) is = let clash : false ≡ true = is in cc
 

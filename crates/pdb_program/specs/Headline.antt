@@ -7,12 +7,14 @@ use Rattle.std.specs.Option.{option_map_or}
 use Rattle.puz_board.specs.BoardTexts.{Spells}
 use Rattle.puz_board.specs.Masks.{numbers_of}
 use Rattle.puz_board.specs.MovesTexts.{Solves}
-use Rattle.claim_text.specs.Claims.{HasNo}
+use Rattle.move_strings.specs.BoundParts.{IsPart, IsPartBounded, ShownPart}
+use Rattle.claim_text.specs.Claims.{HasNo, part_words}
 use Rattle.tab_file.specs.Tables.{Table}
 use Rattle.tab_rule.specs.ExactTables.{IsExactFile}
 use Rattle.set_sum.specs.Bounds.{IsBounded}
 use Rattle.byte_io.specs.Shelf.{Bytes}
 use Rattle.pdb_request.specs.Asked.{Asked, ProveArguments, TableArguments, bound, make_table, optimal, parts, prove, replay, solve, table}
+use Rattle.pdb_run.specs.Writing.{digests_of}
 use Rattle.pdb_verdict.specs.Bound.{IsBoundedText, IsProvedBound}
 use Rattle.pdb_verdict.specs.Lines.{exact_line}
 use Rattle.pdb_verdict.specs.Replay.{IsSolvedPuzzle}
@@ -32,7 +34,8 @@ HasLine above line below text = AreWholeLines above × HasNo 10 line × (text �
 -- the line begins as the lines of a yes do
 abbrev pub SaysYes : Bytes → Type 0
 SaysYes line = (rest : Bytes)
-    × ((line ≡ codes "solution" ++ rest) ⊎ (line ≡ codes "exact" ++ rest) ⊎ (line ≡ codes "bound" ++ rest) ⊎ (line ≡ codes "optimal" ++ rest))
+    × ((line ≡ codes "solution" ++ rest) ⊎ (line ≡ codes "exact" ++ rest) ⊎ (line ≡ codes "bound" ++ rest) ⊎ (line ≡ codes "optimal" ++ rest)
+    ⊎ (line ≡ codes "joined" ++ rest))
 
 -- ---- what a line of a yes means
 
@@ -74,12 +77,31 @@ HoldsOfYes (solve a) before later input above line =
     × (later a.out ≡ Some log) × IsProvedBound a.fold b set_text log files n
 -- the line is a true answer to a claim
 HoldsOfYes (prove a) before later input above line = HoldsOfClaim line
--- the line is `bound n of` the board in the text, `from k parts`; and if each line of the answers is true that says that a part of a
--- bound holds, no solution of the board has fewer than n moves
+-- the line is `joined bound n of` the board in the text, `from k parts, by lines that were read`; above it stand the digests of the
+-- answers; and if each line of these is true that says that one of k parts of the bound n of this board holds, no solution of the
+-- board has fewer than n moves
 HoldsOfYes (parts a) before later input above line =
     (text : Bytes) × (told : Bytes) × (b : List ℕ) × (option_map_or before a.board (Some input) ≡ Some text) × Spells text b × Spells told b
-    × (line ≡ codes "bound " ++ decimal a.bound ++ codes " of" ++ told ++ codes " from " ++ decimal a.count ++ codes " parts")
-    × (files : List Bytes) × (map before a.answers ≡ map Some files) × (AreTrueAnswers files → IsBounded b a.bound)
+    × (line ≡ codes "joined bound " ++ decimal a.bound ++ codes " of" ++ told ++ codes " from " ++ decimal a.count ++ codes " parts, by lines that were read")
+    × (files : List Bytes) × (map before a.answers ≡ map Some files) × (above ≡ digests_of files)
+    × (AreTrueAnswers (record { board = b; bound = a.bound; count = a.count }) files → IsBounded b a.bound)
+
+-- ---- what a line of a part means
+
+-- the line begins as those of parts do
+abbrev pub SaysPart : Bytes → Type 0
+SaysPart line = (rest : Bytes) × (line ≡ codes "part " ++ rest)
+
+-- the line is `part i/k of bound n of` a board text, and for its board that part of the bound, which is at most 255, holds: the least
+-- solution of fewer than n moves, if there is one, isn't of the part
+abbrev pub HoldsOfPart : Bytes → Type 0
+HoldsOfPart line =
+    (p : ShownPart) × (n : ℕ) × (text : Bytes) × (b : List ℕ) × IsPart p × (n ≤ 255) × Spells text b × IsPartBounded p n b
+    × (line ≡ codes "part " ++ part_words p ++ codes " of bound " ++ decimal n ++ codes " of" ++ text)
+
+-- each whole line that begins so is true
+abbrev pub ArePartLinesTrue : Bytes → Type 0
+ArePartLinesTrue lines = (above line below : Bytes) → HasLine above line below lines → SaysPart line → HoldsOfPart line
 
 -- ---- the program's answers
 
@@ -95,7 +117,9 @@ AreAYes other lines = (above : Bytes) × (line : Bytes) × HasLine above line []
 pub record Headline (asked : Asked) (before later : Bytes → Option Bytes) (input lines : Bytes) (status : ℕ) : Type 0 where
   -- each line that says a yes is true, whatever the status and whatever else happened
   pub lines_true : (above line below : Bytes) → HasLine above line below lines → SaysYes line → HoldsOfYes asked before later input above line
-  -- it is the last line, and the status is 0; of `prove` more lines may follow, and one of these may be a no
+  -- and of `prove` each line that says that a part of a bound holds
+  pub parts_true : (a : ProveArguments) → asked ≡ prove a → ArePartLinesTrue lines
+  -- one that says a yes is the last line, and the status is 0; of `prove` more lines may follow, and one of these may be a no
   pub last : (above line below : Bytes) → HasLine above line below lines → SaysYes line → ((a : ProveArguments) → asked ≢ prove a)
       → (below ≡ []) × (status ≡ 0)
   -- and there is one where the status is 0

@@ -1,5 +1,6 @@
 -- What public contracts say.
 pub mod Headline
+pub mod Laws
 pub mod PartLines
 pub mod Programs
 pub mod Refusals

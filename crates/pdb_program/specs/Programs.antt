@@ -17,7 +17,7 @@ use Rattle.pdb_keep.specs.MakeTable.{make_table_plan}
 use Rattle.pdb_keep.specs.Solve.{solve_plan}
 use Rattle.pdb_prove.specs.Prove.{IsCutShort, prove_plan}
 use Rattle.pdb_parts.specs.Parts.{parts_plan}
-use Rattle.pdb_parts.specs.Skipped.{TellsSkipped}
+use Rattle.pdb_parts.specs.Beside.{TellsOfAnswers}
 use Rattle.pdb_words.specs.CommandLine.{Parses, asked_of}
 use Rattle.pdb_program.specs.Refusals.{Refuses}
 
@@ -71,9 +71,9 @@ HasFault asked old new =
 abbrev pub IsNumberOfStatus : (Status → Type 0) → ℕ → Type 0
 IsNumberOfStatus Holds number = (status : Status) × (number ≡ status_number status) × Holds status
 
--- what a run tells on the errors of what words ask for: of lines that `parts` skips, and of any other command nothing
+-- what a run tells on the errors of what words ask for: of answers that `parts` reads, and of any other command nothing
 abbrev pub TellsFor : Asked → World → (old_err new_err : Option Bytes) → Status → Type 0
-TellsFor (parts arguments) old old_err new_err status = TellsSkipped arguments old old_err new_err status
+TellsFor (parts arguments) old old_err new_err status = TellsOfAnswers arguments old old_err new_err status
 TellsFor other old old_err new_err status = Keeps old_err new_err
 
 -- a run on these words, from the one world to the other; what stood on the errors before and after it; and its number

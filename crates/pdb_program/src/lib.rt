@@ -4,6 +4,7 @@
 mod arguments;
 mod hosts;
 mod in_memory;
+pub mod laws;
 mod programs;
 mod refusals;
 mod starts;

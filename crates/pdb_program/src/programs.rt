@@ -64,8 +64,8 @@ pub fn run<H: Threads + Wait + Sync, S: Shelf, R: Source, W: Sink, E: Write, G: 
 
     // With a yes or a no the writer got exactly the lines on the inputs that the words ask for, and with a yes what was made
     // and checked stands under its name. In any case the run says one thing that it has cause to say, or a proper front of it
-    // where the writer failed; so it does of words that don't parse. On the errors it tells of lines that `parts` skips, and else
-    // nothing of words that parse.
+    // where the writer failed; so it does of words that don't parse. On the errors it tells of answers that `parts` reads, and
+    // else nothing of words that parse.
     ensures runs { RunsOn (map string_bytes words.items)
         (world (S.held shelf.old) (calls (S.calls shelf.old) (R.may_have_ended reader.old))
         (failures (S.has_failed shelf.old) (R.may_have_failed reader.old))

@@ -86,13 +86,18 @@ fn answer_alone(guide: &Guide<'_>, posed: Posed<'_>, budget: u64) -> Finding
         },
         Ok(Question::Moves(count)) => {
             let bound = PartBound::whole(bound_of(count));
-            found_moves(count, refute_by_thresholds_alone(guide, start, &bound, budget))
+            found_moves(
+                count,
+                refute_by_thresholds_alone(guide, start, &bound, budget),
+            )
         }
         Ok(Question::Bound(bound)) => {
             let bound = PartBound::whole(bound);
             found_bound(refute_by_thresholds_alone(guide, start, &bound, budget))
         }
-        Ok(Question::Part(part)) => found_part(refute_by_thresholds_alone(guide, start, &part, budget)),
+        Ok(Question::Part(part)) => found_part(refute_by_thresholds_alone(
+            guide, start, &part, budget,
+        )),
         Err(refused) => Finding::Refused(refused),
     }
 }
@@ -114,13 +119,18 @@ pub(crate) fn answer_by<R: Threads + Sync, G: Gate + Sync>(
         }
         Ok(Question::Moves(count)) => {
             let bound = PartBound::whole(bound_of(count));
-            found_moves(count, refute_by_thresholds(guide, start, &bound, budget, workers))
+            found_moves(
+                count,
+                refute_by_thresholds(guide, start, &bound, budget, workers),
+            )
         }
         Ok(Question::Bound(bound)) => {
             let bound = PartBound::whole(bound);
             found_bound(refute_by_thresholds(guide, start, &bound, budget, workers))
         }
-        Ok(Question::Part(part)) => found_part(refute_by_thresholds(guide, start, &part, budget, workers)),
+        Ok(Question::Part(part)) => found_part(refute_by_thresholds(
+            guide, start, &part, budget, workers,
+        )),
         Err(refused) => Finding::Refused(refused),
     }
 }

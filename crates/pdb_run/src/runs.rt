@@ -248,7 +248,12 @@ fn say_too_long<'n, F: Copy, I: Io>(input: &Input<'n>, io: &mut I) -> Ended<'n, 
     ensures said { let line = named_line (codes "fault size ") (shown (wanted_of input.now).name) in
         IsSaid line Status.Fault (I.world io.old) (I.world io.new) result.status }
 {
-    say_named("fault size ", name_of(input), Cause::TooLong(input.name), io)
+    say_named(
+        "fault size ",
+        name_of(input),
+        Cause::TooLong(input.name),
+        io,
+    )
 }
 
 /// Says that nothing is kept under a name.

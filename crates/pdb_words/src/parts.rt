@@ -46,10 +46,14 @@ pub(crate) fn parts_command<'a>(alloc: Global) -> Result<Command<'a>, AllocError
         about: "Says a bound where lines say that all its parts hold, or which parts are open",
         usage: "pdb_cli parts BOARD N K ANSWERS..",
         after_help: with_statuses!(
-            "ANSWERS are files of lines as `prove` writes them. Where a line `part I/K of bound N of BOARD`
-stands in them for each I below K, it says `bound N of BOARD from K parts`: whoever trusts the
-lines trusts the bound. Else it writes the claims `BOARD : N part I/K` that are still open, with
-status 1: they are the next CLAIMS of `prove`. A last line without its end is no line.",
+            "ANSWERS are files of lines as `prove` writes them, at least one; - is a file of that name. Where
+a line `part I/K of bound N of BOARD` stands in them for each I below K, it writes the digest of
+each file, and says `joined bound N of BOARD from K parts, by lines that were read`. It believes
+these lines: whoever trusts them trusts the bound. A line `refused O2 by MOVES of ..` on one of
+the parts it doesn't believe, but replays: where MOVES solve BOARD in fewer than N moves, it says
+`refused O2 by MOVES of BOARD : N`. Else it writes the claims `BOARD : N part I/K` that are
+still open, with status 1: they are the next CLAIMS of `prove`. A last line without its end is
+no line.",
             ""
         ),
     };

@@ -39,7 +39,7 @@ fn each_answer_has_its_line(rt: HostRuntime) {
         (bound_line(6, &start), "bound 6 of 3 2 1 0\n"),
         (
             joined_line(6, 3, &start),
-            "bound 6 of 3 2 1 0 from 3 parts\n",
+            "joined bound 6 of 3 2 1 0 from 3 parts, by lines that were read\n",
         ),
         (
             optimal_line(6, &start, b" U\tLD RUL\r"),

@@ -196,7 +196,14 @@ fn each_command_comes_to_its_yes(rt: HostRuntime) -> Result<(), Fail> {
             &[f12, f3, puzzle, b"optimal 6 of 3 2 1 0 ; ULDRUL\n"],
             old,
         ),
-        (Command::Parts, &[b"bound 6 of 3 2 1 0 from 1 parts\n"], old),
+        (
+            Command::Parts,
+            &[
+                b"sha256 e0be5a9b6d557bd5db86ac8d7d9effbaad5279b9ea5f2974b8ae808db6c99d41\n",
+                b"joined bound 6 of 3 2 1 0 from 1 parts, by lines that were read\n",
+            ],
+            old,
+        ),
     ];
     for (command, lines, kept) in cases {
         expect_yes(&rt, command, lines, kept)?;

@@ -250,7 +250,8 @@ fn expect_errors_cut<H: Threads + Wait + Sync + Abort>(
     let mut err = failing_from(alloc, fails_from, how);
     let words = ["parts", "board", "6", "3", "first", "others", "sets"];
     let left = ran_beside(rt, alloc, &words, &mut out, &mut err)?;
-    let is_told = out.taken() == b"bound 6 of 3 2 1 0 from 3 parts\n".as_slice();
+    let line = b"joined bound 6 of 3 2 1 0 from 3 parts, by lines that were read\n";
+    let is_told = out.taken().ends_with(line.as_slice());
     holds_for(rt, left.status == 0 && is_told, &("write", fails_from));
     let front = SKIPPED.get(..fails_from).unwrap_or(SKIPPED);
     same_for(rt, &err.taken(), &front, &fails_from);

@@ -1,9 +1,9 @@
-//! What is said of a bound in parts where texts of answer lines were read, and how many of the lines are skipped.
+//! What is said of a bound in parts where texts of answer lines were read, and what is told beside it.
 
-use crate::same::{same, same_for};
+use crate::same::{holds_for, same, same_for};
 use claim_text::{Asks, part_line, read_claims};
 use move_strings::BoundPart;
-use pdb_parts::{BoundInParts, Joined, LineCounts, join};
+use pdb_parts::{BoundInParts, Joined, join};
 use puz_board::Board;
 use std::alloc::{AllocError, AllocGlobal, Global};
 use std::process::Abort;
@@ -34,26 +34,52 @@ fn texts_of(alloc: Global, texts: &[&[u8]]) -> Result<Vec<Vec<u8>>, AllocError> 
     Ok(all)
 }
 
+/// What is said at the end where these texts were read, whether that is a yes, and what is told beside it.
+struct Case<'t> {
+    texts: &'t [&'t [u8]],
+    end: &'t str,
+    is_yes: bool,
+    beside: &'t str,
+}
+
+/// Ends the test where something else is said of three parts.
+fn expect_case<R: AllocGlobal + Abort>(rt: &R, case: &Case<'_>) -> Result<(), Fail> {
+    let joined = joined(rt, 3, texts_of(rt.alloc(), case.texts)?.as_slice());
+    holds_for(rt, joined.text.as_str().ends_with(case.end), &case.end);
+    same_for(rt, &joined.is_yes, &case.is_yes, &case.end);
+    same_for(rt, &joined.beside.as_str(), &case.beside, &case.end);
+    Ok(())
+}
+
+const FIRST: &[u8] = b"part 2/3 of bound 6 of 3 2 1 0\nx\n";
+
+const CUT: &[u8] = b"part 0/3 of bound 6 of 3 2 1 0\npart 1/3 of";
+
+const LAST: &[u8] = b" bound 6 of 3 2 1 0\npart 1/3 of bound 6 of 3 2 1 0\n";
+
 #[test]
 fn parts_may_come_from_several_texts(rt: HostRuntime) -> Result<(), Fail> {
-    let first: &[u8] = b"part 2/3 of bound 6 of 3 2 1 0\nx\n";
-    let cut: &[u8] = b"part 0/3 of bound 6 of 3 2 1 0\npart 1/3 of";
-    let last: &[u8] = b" bound 6 of 3 2 1 0\npart 1/3 of bound 6 of 3 2 1 0\n";
-    let cases: [(&[&[u8]], &str, (usize, usize)); 2] = [
-        (&[first, cut], "3 2 1 0 : 6 part 1/3\n", (3, 1)),
-        (
-            &[first, cut, last],
-            "bound 6 of 3 2 1 0 from 3 parts\n",
-            (5, 2),
-        ),
-    ];
-    for (texts, text, (all, skipped)) in cases {
-        let joined = joined(&rt, 3, texts_of(rt.alloc(), texts)?.as_slice());
-        same_for(&rt, &joined.text.as_str(), &text, &texts);
-        same(&rt, &joined.is_yes, &text.starts_with("bound"));
-        same(&rt, &joined.counts, &LineCounts { all, skipped });
-    }
-    Ok(())
+    let skipped = "pdb_cli: lines that tell of no part of this bound, and were skipped: ";
+    let mut told = String::new(rt.alloc());
+    told.push_str(skipped)?;
+    told.push_str("1 of 3\n")?;
+    let open = Case {
+        texts: &[FIRST, CUT],
+        end: "3 2 1 0 : 6 part 1/3\n",
+        is_yes: false,
+        beside: told.as_str(),
+    };
+    expect_case(&rt, &open)?;
+    let mut told = String::new(rt.alloc());
+    told.push_str(skipped)?;
+    told.push_str("2 of 5\n")?;
+    let whole = Case {
+        texts: &[FIRST, CUT, LAST],
+        end: "joined bound 6 of 3 2 1 0 from 3 parts, by lines that were read\n",
+        is_yes: true,
+        beside: told.as_str(),
+    };
+    expect_case(&rt, &whole)
 }
 
 /// Ends the test where a text hasn't so many claims, of which the last is this part of that bound.
@@ -78,10 +104,7 @@ fn open_parts_are_read_as_claims_and_their_answers_give_the_bound(
     expect_last(&rt, open.text.as_bytes(), 63, last);
     let texts = texts_of(rt.alloc(), &[answers.as_slice()])?;
     let given = joined(&rt, 63, texts.as_slice());
-    same(
-        &rt,
-        &given.text.as_str(),
-        &"bound 6 of 3 2 1 0 from 63 parts\n",
-    );
+    let line = "joined bound 6 of 3 2 1 0 from 63 parts, by lines that were read\n";
+    holds_for(&rt, given.text.as_str().ends_with(line), &line);
     Ok(())
 }

@@ -57,6 +57,10 @@ const DIGEST_OF_LOG: &str = "e9e77cadd5844ced52b6de00a0ab5f92b680046686168f0e782
 
 const DIGEST_OF_CLAIMS: &str = "4f8e604eb0617c441085ebe34aedb776a95bd3ab15a1ea2cd626a94136418a52";
 
+const DIGEST_OF_FIRST: &str = "7ef48adedbd9368a13c50de20c8c9ef2209edaa961c1915b973cefc3ce52dde4";
+
+const DIGEST_OF_OTHERS: &str = "f59f479b141407628fc76aa6ab442976e79983b7f0d1488e5e9498bbb85a2e22";
+
 /// A leaf for the board and the bound 6, in version 2.
 const MADE: [u8; 20] = *b"PDBL\x02\x02\0\0\0\x01\x03\x02\x01\0\x06\0\0\0\x01\x01";
 
@@ -132,8 +136,8 @@ pub(crate) const TASKS: [Task<'static>; 11] = [
         reads: &["board", "first", "others"],
         out: None,
         made: None,
-        digests: &[],
-        last: "bound 6 of 3 2 1 0 from 3 parts\n",
+        digests: &[DIGEST_OF_FIRST, DIGEST_OF_OTHERS],
+        last: "joined bound 6 of 3 2 1 0 from 3 parts, by lines that were read\n",
         status: 0,
     },
     Task {

@@ -1,6 +1,6 @@
 -- What is read of tiles that are written with commas between them.
-use Rattle.std.proofs.Common.{◌≡◌, ◌<◌, ◌∙◌, arith, ap, refl, false, ℕ, Bool, List, [], ◌∷◌, ◌++◌, Some, codes, decimal, map}
-use Rattle.std.specs.List.{All, AllByRecursion, join_with_byte, slice_split}
+use Rattle.std.proofs.Common.{◌≡◌, ◌<◌, ◌∙◌, arith, ap, refl, false, ℕ, Bool, List, [], ◌∷◌, ◌++◌, Some, codes, decimal, length, map}
+use Rattle.std.specs.List.{All, AllByRecursion, join_with_byte, position_or_len, slice_split}
 use Rattle.std.specs.Prelude.{◌==◌}
 use Rattle.std.specs.Str.Parse.{AllDigits}
 use Rattle.std.proofs.lemmas.Bool.Decides.{nat_tests}
@@ -9,7 +9,7 @@ use Rattle.std.proofs.lemmas.List.Elements.{All-from_recursion}
 use Rattle.std.proofs.lemmas.List.Splits.{slice_split_at, slice_split_none}
 use Rattle.std.proofs.lemmas.Slice.Eq.{bytes_eq-Decides}
 use Rattle.clap.specs.Walk.{Text}
-use Rattle.pdb_words.specs.Masks.{mask_of_tiles, mask_written, tile_written, tiles_mask, tiles_written}
+use Rattle.pdb_words.specs.Masks.{is_dash, mask_of_tiles, mask_written, tile_written, tiles_mask, tiles_named, tiles_written}
 use Rattle.word_laws.specs.MaskWords.{AreTiles, tiles_word}
 
 abbrev is_comma : ℕ → Bool
@@ -39,10 +39,20 @@ parts_back tile (next ∷ tiles) small =
     slice_split_at is_comma (decimal tile) 44 (join_with_byte 44 (map decimal (next ∷ tiles))) (apart_from_commas tile small.0) refl ∙
     ap (λ (parts : List Text). decimal tile ∷ parts) (parts_back next tiles small.1)
 
+-- a digit is no dash
+no_dash : (ds : List ℕ) → AllDigits 10 ds → position_or_len is_dash ds ≡ length ds
+no_dash [] all = refl
+no_dash (d ∷ ds) all = grind (arith, nat_tests, no_dash ds all.1)
+
+-- so the decimal of a tile names this tile alone
+named_back : (tile : ℕ) → tile < 32 → tiles_named (decimal tile) ≡ Some (tile ∷ [])
+named_back tile small =
+    grind (arith, nat_tests, no_dash (decimal tile) (decimal_is_IsNumeral tile (omega arith)).0.1, tile_back tile small)
+
 -- and the tiles are read of them
 tiles_back : (tiles : List ℕ) → AreSmall tiles → tiles_written (map decimal tiles) ≡ Some tiles
 tiles_back [] small = refl
-tiles_back (tile ∷ tiles) small = rw (tile_back tile small.0, tiles_back tiles small.1) refl
+tiles_back (tile ∷ tiles) small = rw (named_back tile small.0, tiles_back tiles small.1) refl
 
 behind_front : (text : Text) → mask_written (codes "tiles:" ++ text) ≡ tiles_mask text
 behind_front text = refl

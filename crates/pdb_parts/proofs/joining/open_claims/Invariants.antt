@@ -7,4 +7,4 @@ use Rattle.pdb_parts.proofs.joining.open_claims.Given as goal
 -- the text has the claims of the parts before this one that have no mark
 abbrev pub invariant-loop-index : goal.invariant-loop-index
 invariant-loop-index l =
-    string_bytes l.text ≡ flat_map (open_claim (shown l.asked)) (filter (λ i. not (slice_index_or l.told i false)) (range_with_len 0 l.index))
+    string_bytes l.text ≡ flat_map (open_claim (shown l.asked)) (filter (λ i. not (slice_index_or l.holds i false)) (range_with_len 0 l.index))

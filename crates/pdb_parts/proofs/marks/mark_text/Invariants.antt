@@ -1,19 +1,23 @@
-use Rattle.std.proofs.Common.{◌≡◌, ◌<◌, ◌≤◌, ◌+◌, ◌||◌, ◌++◌, ℕ, List, false, length, slice_index_or}
-use Rattle.pdb_parts.specs.Joining.{is_told, whole_lines}
-use Rattle.pdb_parts.specs.Stored.{AreCountsOf, shown}
+use Rattle.std.proofs.Common.{◌≡◌, ◌≤◌, ◌+◌, ◌++◌, List, length, ℕ}
+use Rattle.std.specs.List.{All}
+use Rattle.pdb_parts.specs.Joining.{RefutesNot, whole_lines}
+use Rattle.pdb_parts.specs.Stored.{AreCountsOf, AreMarksOf, shown}
 use Rattle.pdb_parts.proofs.marks.mark_text.Given as goal
 
--- besides the first marks there are those of the whole lines so far, and the other lines are left
+-- what the lines so far tell is marked and counted, they show no moves, and the other lines are left
 abbrev pub invariant-loop-line : goal.invariant-loop-line
 invariant-loop-line l = record {
-  size : length l.told ≡ length l.fn.told;
-  marks : (done : List (List ℕ)) × (whole_lines l.text ≡ done ++ whole_lines l.rest)
-      × ((i : ℕ) → i < l.asked.count → slice_index_or l.told i false ≡ (slice_index_or l.fn.told i false || is_told done (shown l.asked) i))
-      × AreCountsOf l.counts done (shown l.asked);
+  holds_size : length l.holds ≡ length l.fn.holds;
+  spent_size : length l.spent ≡ length l.fn.spent;
+  so_far : (done : List (List ℕ)) × (whole_lines l.text ≡ done ++ whole_lines l.rest)
+      × ((before : List (List ℕ)) → AreMarksOf l.fn.holds l.fn.spent before (shown l.asked)
+      → AreMarksOf l.holds l.spent (before ++ done) (shown l.asked))
+      × AreCountsOf l.counts done (shown l.asked)
+      × All (RefutesNot (shown l.asked)) done;
   few : l.counts.all + length l.rest ≤ length l.text;
   fewer : l.counts.skipped ≤ l.counts.all;
 }
 
--- the length of the text whose lines aren't marked
+-- the length of the text whose lines aren't gone over
 abbrev pub decreases-loop-line : goal.decreases-loop-line
 decreases-loop-line l = length l.rest

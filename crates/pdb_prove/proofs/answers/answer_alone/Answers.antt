@@ -2,9 +2,16 @@ use Rattle.claim_text.specs.Shown.{asks_shown}
 use Rattle.pdb_prove.proofs.QuestionLemmas.{bound_for, moves_for, part_for, shortest_for}
 use Rattle.pdb_prove.proofs.answers.answer_alone.Goals as goal
 
--- what one thread finds by a search for a shortest solution is right for a claim that asks for one
-pub returns-in-Ok-Shortest : goal.returns-in-Ok-Shortest
-returns-in-Ok-Shortest c =
+-- where one thread spends its boards on a search for a shortest solution, no bound is told
+pub returns-in-Spent : goal.returns-in-Spent
+returns-in-Spent c =
+    let asked = rw c.in-Ok-Shortest.field-0-is at c.in-Ok-Shortest.ensures.ok in
+    shortest_for _ _ _ _ (asks_shown c.args.posed.claim.now.asks) asked
+    (_, rw (c.in-Spent.is, c.requires.board) at c.shortest_alone.ensures)
+
+-- what it finds otherwise is right for a claim that asks for a shortest solution
+pub returns-in_default : goal.returns-in_default
+returns-in_default c =
     let asked = rw c.in-Ok-Shortest.field-0-is at c.in-Ok-Shortest.ensures.ok in
     shortest_for _ _ _ _ (asks_shown c.args.posed.claim.now.asks) asked
     (c.found_shortest.ensures _ _ (rw c.requires.board at c.shortest_alone.ensures))

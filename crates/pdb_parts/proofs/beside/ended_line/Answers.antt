@@ -1,7 +1,7 @@
 use Rattle.std.proofs.Common.{refl}
-use Rattle.pdb_parts.proofs.skipped.skipped_line.Goals as goal
+use Rattle.pdb_parts.proofs.beside.ended_line.Goals as goal
 
--- the pieces make the line of the two counts
+-- the pieces make the line of the two numbers
 pub returns : goal.returns
 returns c = rw (
   c.push_str-5.ensures.bytes,

@@ -1,0 +1,15 @@
+use Rattle.std.proofs.Common.{refl}
+use Rattle.pdb_parts.proofs.beside.skipped_line.Goals as goal
+
+-- the pieces make the line of the two counts
+pub returns : goal.returns
+returns c = rw (
+  c.push_str-5.ensures.bytes,
+  c.push_str-4.ensures.bytes,
+  c.push_str-3.ensures.bytes,
+  c.push_str-2.ensures.bytes,
+  c.push_str.ensures.bytes,
+  c.new-line.ensures,
+  c.format.ensures.text,
+  c.format-2.ensures.text,
+) refl

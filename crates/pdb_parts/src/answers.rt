@@ -1,0 +1,77 @@
+//! What a line tells of a bound in parts.
+
+ghost use Rattle.std.specs.Prelude.{◌≡◌, ◌++◌, ◌<◌, ℕ, List, IfErr, IfNone, IfOk, IfSome, codes};
+ghost use Rattle.puz_board.specs.MovesTexts.{Solves};
+ghost use Rattle.claim_text.specs.Parts.{AreParts};
+ghost use Rattle.pdb_parts.specs.Joining.{Refutes};
+ghost use Rattle.pdb_parts.specs.Stored.{IsAnswerOf, is_skip, shown};
+
+use crate::marks::BoundInParts;
+use claim_text::{refused_part, told_index};
+use puz_board::replay;
+
+/// What a line tells of a bound in parts that shows no moves against it.
+#[derive(Clone, Copy, Debug)]
+pub(crate) enum PartAnswer {
+    /// The part with this index holds.
+    Holds(u16),
+    /// A budget ended the search of the part with this index.
+    Spent(u16),
+    /// No more, but a search wrote it: a digest, or that the board has no solution.
+    Other,
+    /// Nothing.
+    Skipped,
+}
+
+impl PartAnswer {
+    /// Whether the line is skipped.
+    pub(crate) fn is_skip(self) -> bool
+        ensures { result ≡ is_skip self }
+    {
+        matches!(self, PartAnswer::Skipped)
+    }
+}
+
+/// What a line tells, which has its LF; or the moves text in it, where that shows that the bound is false.
+pub(crate) fn read_answer<'l>(line: &'l [u8], asked: &BoundInParts) -> Result<PartAnswer, &'l [u8]>
+    requires { AreParts asked.now.count }
+    ensures answer { IfOk result (IsAnswerOf (shown asked.now) line.now) }
+    ensures moves { IfErr result (λ moves. Refutes (shown asked.now) line.now moves.now) }
+{
+    if line.starts_with(b"sha256 ".as_slice()) {
+        return Ok(PartAnswer::Other);
+    }
+    if let Some(index) = told_index(line, asked.count, asked.bound, &asked.board) {
+        return Ok(PartAnswer::Holds(index));
+    }
+    let Some(refused) = refused_part(line, asked.count, asked.bound, &asked.board) else {
+        return Ok(PartAnswer::Skipped);
+    };
+    if refused.what == b"refused K1".as_slice() {
+        return Ok(PartAnswer::Spent(refused.index));
+    }
+    if refused.what == b"refused K2".as_slice() {
+        return Ok(PartAnswer::Other);
+    }
+    match moves_in(refused.what, asked) {
+        Some(moves) => Err(moves),
+        None => Ok(PartAnswer::Skipped),
+    }
+}
+
+/// The moves for which a claim is refused, as `refused O2 by ULDRUL`, where they are a solution of fewer moves than the bound.
+fn moves_in<'l>(what: &'l [u8], asked: &BoundInParts) -> Option<&'l [u8]>
+    ensures some { IfSome result (λ moves. (what.now ≡ codes "refused O2 by" ++ moves.now)
+        × ((n : ℕ) × Solves asked.now.board moves.now n × (n < asked.now.bound))) }
+    ensures none { IfNone result ((moves : List ℕ) (n : ℕ)
+        → what.now ≡ codes "refused O2 by" ++ moves → Solves asked.now.board moves n
+        → ¬ (n < asked.now.bound)) }
+{
+    let moves = what.strip_prefix(b"refused O2 by".as_slice())?;
+    let count = replay(&asked.board, moves).ok()?;
+    if count < u16::from(asked.bound) {
+        Some(moves)
+    } else {
+        None
+    }
+}
