@@ -203,10 +203,15 @@ joined_words n count b =
 -- they are one line
 pub joined_one : (n count : ℕ) (b : List ℕ) → HasNo 10 (joined_words n count b)
 joined_one n count b =
-    let bound = with_number (codes "joined bound ") n refl in
-    let board = join_no_lf _ (numbers b) (join_no_lf _ (codes " of") bound (known (codes " of") refl)) (numbers-no_lf b) in
-    let front = join_no_lf _ (decimal count) (join_no_lf _ (codes " from ") board (known (codes " from ") refl)) (decimal-no_lf count) in
-    join_no_lf _ (codes " parts, by lines that were read") front (known (codes " parts, by lines that were read") refl)
+    let upto_bound = codes "joined bound " ++ decimal n in
+    let upto_board = upto_bound ++ codes " of" ++ numbers b in
+    let upto_count = upto_board ++ codes " from " ++ decimal count in
+    let bound : HasNo 10 upto_bound = with_number (codes "joined bound ") n refl in
+    let of_board = join_no_lf upto_bound (codes " of") bound (known (codes " of") refl) in
+    let board = join_no_lf (upto_bound ++ codes " of") (numbers b) of_board (numbers-no_lf b) in
+    let from_count = join_no_lf upto_board (codes " from ") board (known (codes " from ") refl) in
+    let count_told = join_no_lf (upto_board ++ codes " from ") (decimal count) from_count (decimal-no_lf count) in
+    join_no_lf upto_count (codes " parts, by lines that were read") count_told (known (codes " parts, by lines that were read") refl)
 
 -- which their end makes whole
 pub joined_ended : (n count : ℕ) (b : List ℕ) → joined_line n count b ≡ joined_words n count b ++ codes "\n"

@@ -151,10 +151,14 @@ fn named_for<'a>(asked: &Request<'a>, why: Cause<'a, Fault>) -> Option<Named<'a>
 /// What the sentence of a refusal names. What `prove` answers to a claim has the claim in its line, and a sentence besides only
 /// where this says more: how far the searches for the last claim came.
 fn named_for_refusal<'a>(asked: &Request<'a>, fault: Fault) -> Option<Named<'a>> {
-    match (asked, fault, subject_of(fault)) {
-        (Request::Prove(_), Fault::K1(bound), _) => ended_below(bound).map(|_| Named::LastClaim),
-        (Request::Prove(_), _, Subject::Goal | Subject::Run) => None,
-        (_, _, subject) => Some(name_of(asked, subject)),
+    let subject = subject_of(fault);
+    if !matches!(asked, Request::Prove(_)) {
+        return Some(name_of(asked, subject));
+    }
+    match (fault, subject) {
+        (Fault::K1(bound), _) => ended_below(bound).map(|_| Named::LastClaim),
+        (_, Subject::Goal | Subject::Run) => None,
+        _ => Some(name_of(asked, subject)),
     }
 }
 

@@ -128,17 +128,17 @@ fn expect_searches<H: Threads + Wait + Sync + Abort>(
 fn a_claim_is_searched_for_anew_over_words_where_it_takes_many_boards(
     rt: HostRuntime,
 ) -> Result<(), Fail> {
-    // Words are made after a third as many boards as the tables have placements, 24 here: the first claim takes more, and is searched
-    // for a second time, and the second claim over words alone.
-    expect_searches(&rt, rt.alloc(), "prove twice sets t t t t t t t t", 3)
+    // Words are made after a third as many boards as the tables have placements, 24 here: below 2 and 4 the first claim takes 14, and
+    // below 6 more than are left. Over words nine searches are for each claim, below 2, 4 and so on up to 16, and below 21.
+    expect_searches(&rt, rt.alloc(), "prove twice sets t t t t t t t t", 21)
 }
 
 #[test]
 fn sums_are_asked_of_more_than_eight_tables(rt: HostRuntime) -> Result<(), Fail> {
-    expect_searches(&rt, rt.alloc(), "prove hard sets t t t t t t t t t", 1)
+    expect_searches(&rt, rt.alloc(), "prove hard sets t t t t t t t t t", 9)
 }
 
 #[test]
 fn sums_are_asked_of_folded_tables(rt: HostRuntime) -> Result<(), Fail> {
-    expect_searches(&rt, rt.alloc(), "prove hard sets t --fold --workers 2", 1)
+    expect_searches(&rt, rt.alloc(), "prove hard sets t --fold --workers 2", 9)
 }

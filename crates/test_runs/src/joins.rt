@@ -35,6 +35,7 @@ fn texts_of(alloc: Global, texts: &[&[u8]]) -> Result<Vec<Vec<u8>>, AllocError> 
 }
 
 /// What is said at the end where these texts were read, whether that is a yes, and what is told beside it.
+#[derive(Drop)]
 struct Case<'t> {
     texts: &'t [&'t [u8]],
     end: &'t str,

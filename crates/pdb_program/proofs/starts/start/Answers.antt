@@ -1,4 +1,5 @@
-use Rattle.std.proofs.Common.{◌≡◌, ◌∙◌, ap, refl, rules, sym}
+use Rattle.std.proofs.Common.{◌≡◌, ◌∙◌, ap, drop, map, refl, rules, sym}
+use Rattle.std.specs.String.{string_bytes}
 use Rattle.pdb_program.proofs.HeadlineLemmas.{headline_of, part_lines_of}
 use Rattle.pdb_program.proofs.ProgramLemmas.{runs_on}
 use Rattle.pdb_program.proofs.starts.start.Goals as goal
@@ -30,5 +31,6 @@ returns-in-Ok-clause-headline g c = rw c.in-Ok.is (λ before later input start l
 pub returns-in-Ok-clause-part_lines : goal.returns-in-Ok-clause-part_lines
 returns-in-Ok-clause-part_lines g c = rw c.in-Ok.is (λ a start lines parses asked stood wrote.
     let out : c.out-1.given.0 ≡ c.answer_read.new.io.out.now = search rules in
-    part_lines_of _ _ _ _ _ refl c.answer_read.ensures.ends
+    let words = drop 1 (map string_bytes c.in-Ok.read.now.all.now) in
+    part_lines_of words words _ _ _ refl c.answer_read.ensures.ends
     a start lines parses asked stood (ap (λ w. (g.W.Sink.output w).bytes) (sym out) ∙ wrote))

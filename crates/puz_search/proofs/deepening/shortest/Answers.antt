@@ -14,7 +14,7 @@ loop-bound-init g c =
 pub loop-bound-preserved : goal.loop-bound-preserved
 loop-bound-preserved g c =
     let b = c.args.start.now.board in
-    let is = c.in-Refuted.ensures.answer in
+    let is = rw c.whole-threshold.ensures at c.in-Refuted.ensures.answer in
     let low : c.loop-bound.bound < 254 = c.loop-bound-test.true in
     let bit : blank_parity b ≤ 1 = (let e = c.blank_parity-bound.ensures.parity in let bit = c.blank_parity-bound.ensures.bit in omega arith) in
     deep_next c.args.guide.now b c.requires.board c.args.budget c.loop-bound.left c.loop-bound.bound
@@ -25,4 +25,4 @@ pub returns-in-Spent : goal.returns-in-Spent
 returns-in-Spent g c =
     let b = c.args.start.now.board in
     deep_spent c.args.guide.now b c.requires.board c.args.budget c.loop-bound.left
-    c.loop-bound.bound c.loop-bound.invariant c.in-Spent.ensures.answer
+    c.loop-bound.bound c.loop-bound.invariant (rw c.whole-threshold.ensures at c.in-Spent.ensures.answer)
