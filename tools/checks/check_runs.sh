@@ -1027,9 +1027,9 @@ check 'a table is told while it is made and while it is checked' told_kinds \
     'made, N of N: N percent of N blocks or lemmas begun'
 rm made tiles_1_to_4 tiles_5_to_8 sets board_of_3
 
-# A search tells its pace, and no shares.
+# Each search of a claim tells its pace, and no shares.
 told_paces_alone() {
-    [ -s "$work/errors" ] && ! grep -Evqx 'pdb_cli: claim 0, below 29: [0-9]+ boards, [0-9]+ a second' "$work/errors"
+    [ -s "$work/errors" ] && ! grep -Evqx 'pdb_cli: claim 0, below [0-9]+: [0-9]+ boards, [0-9]+ a second' "$work/errors"
 }
 echo '8 0 6 5 4 7 2 3 1 : 29' >claims
 run prove claims one_set three_of_side_3
