@@ -44,7 +44,7 @@ START = re.compile(
     r"(?P<indent> *)(?:abbrev pub|unfoldable pub|abbrev|unfoldable|pub record|pub data|record|data|pub)? *"
     r"(?P<name>[^\s(){}:]+)(?= *[:({])"
 )
-ITEM = re.compile(r"^- \[`[\w.]+`\]\(\.\./([\w./]+)\): (\d+) definitions?, (\d+) lines\. (.*)$", re.MULTILINE)
+ITEM = re.compile(r"^- \[`[\w.]+`\]\(\.\./([\w./]+)\) \((\d+), (\d+)\): (.*)$", re.MULTILINE)
 IMPORT = re.compile(r"(?:pub |ghost )?use (Rattle\.[\w.]+?)(?:\.\{([^}]*)\}|)(?: as (\w+))?;?$")
 
 

@@ -40,7 +40,7 @@ printf 'set 0 1 2\\nset 0t 1t 2t\\n' >sets
 ./pdb_cli prove docs/results/korf_1985.claims sets left right top --workers 4 | diff - docs/results/korf_1985.answers
 ```
 
-The number of boards is that of the last search, which finds no shorter solution.
+The number of boards is that of the last search, which finds no shorter solution; few are under 65,536.
 """
 KORF_AND_FELNER = """\
 ## The 24-puzzle: {count} boards of Korf and Felner
@@ -59,8 +59,8 @@ printf 'set 0 1 2 3\\nset 0t 1t 2t 3t\\n' >sets
 
 The last searches expand {boards} boards in all. Four idle processors expand 47 to 53 million a second ([SPEED](SPEED.md)).
 """
-# A search of fewer boards tells nothing while it runs.
-FEW = 65_536
+# A search of fewer than 65,536 boards tells nothing while it runs.
+FEW = "few"
 
 
 def is_solved(board, letters):
@@ -86,7 +86,7 @@ def rows(name):
         if not is_solved(tuple(map(int, board.split())), letters):
             sys.exit(f"{name}: the moves don't solve {claim}")
         boards = int(count["boards"] or 0)
-        yield count["number"], int(count["moves"]), f"{boards:,}" if boards else f"under {FEW:,}"
+        yield count["number"], int(count["moves"]), f"{boards:,}" if boards else FEW
 
 
 def table(shown, across):
@@ -104,7 +104,7 @@ def table(shown, across):
 def section(name, text, across):
     shown = list(rows(name))
     moves = [it for _, it, _ in shown]
-    boards = sum(int(it.replace(",", "")) for _, _, it in shown if it[0] != "u")
+    boards = sum(int(it.replace(",", "")) for _, _, it in shown if it != FEW)
     print()
     print(text.format(count=len(shown), least=min(moves), most=max(moves), boards=f"{boards:,}"))
     print("\n".join(table(shown, across)))
