@@ -163,7 +163,7 @@ find_room() {
     local room limit held
     most=$(nproc) || most=1
     jobs=$((most < 4 ? most : 4))
-    { read -r room && read -r limit && read -r held; } < <(sed -n 's/^MemAvailable: *\([0-9]*\) kB$/\1/p; /^\([0-9]*\|max\)$/p' \
+    { read -r room && read -r limit && read -r held; } < <(sed -n 's/^MemAvailable: *\([0-9]*\) kB$/\1/p; t; /^\([0-9]*\|max\)$/p' \
         /proc/meminfo /sys/fs/cgroup/memory.{max,current} 2>/dev/null)
     [[ ${limit:-max} == max ]] || room=$((limit / 1024 - held / 1024 < room ? limit / 1024 - held / 1024 : room))
     room=$(((room / 1205 - 1500 - 700 * (jobs - 1)) / 1500 + 1))

@@ -49,7 +49,7 @@ make_case() {
     printf '%s\n' '# A library.' low: 'unused: low' 'pdb_cli: low hex' >"$checkout/crates.txt"
     echo 'Handles allowed: Threads, Wait.' >"$checkout/HANDLES" && echo out/ >"$checkout/.gitignore"
     touch -d '2 hours ago' "$place/old.rt"
-    echo 4 >"$at/orders/processors" && echo 99000000 >"$at/orders/memory" && touch "$at/orders/"{calls,processes}
+    echo 4 >"$at/orders/processors" && echo 'MemAvailable:   99000000 kB' >"$at/orders/memory" && touch "$at/orders/"{calls,processes}
     answer rt 0 '5 passed, 0 failed'
     answer check_runs.sh 0 '3 passed, 0 failed'
     answer check_launcher.sh 0 '2 passed, 0 failed'
@@ -222,7 +222,7 @@ environment | by=("$env" RT_ALLOW_C=1 RT_BACKEND=rattle GLOBIGNORE="*" GIT_DIR=x
 no_terminal_and_no_streams | by=("$(type -P setsid)" -w bash -c "exec \"\$@\" <&- 2>&-" bash "$launcher") | ran low pdb_cli
 no_nproc | rm "$kit/bin/nproc" | ran low pdb_cli
 one_processor | add_more; echo 1 >"$at/orders/processors" | is_run && in_turn low top right left pdb_cli
-little_memory | add_more; echo 3000000 >"$at/orders/memory" | is_run && in_turn low top right left pdb_cli
+little_memory | add_more; echo "MemAvailable: 3000000 kB" >"$at/orders/memory" | is_run && in_turn low top right left pdb_cli
 longest_chain | add_more; echo 1 >"$at/orders/processors"; printf "fn left\n%.0s" {1..9} >crates/left/src/lib.rt | is_run && in_turn low left top right pdb_cli
 failing_once | order fail_once_low | ran low low pdb_cli && said "one after the other"
 killed_once | order die_once_pdb_cli | ran low pdb_cli pdb_cli && said "one after the other"
@@ -239,8 +239,10 @@ group_firsts() {
     check 'the program waits for all that it uses' 'waits pdb_cli && disorder hold_left && waits pdb_cli'
     disorder hold_right && finish
     check 'and then runs, each crate proved once' 'ran left low pdb_cli right top'
-    for few in 'processors 2' 'memory 7300000'; do
-        make_case "few $few" 'add_more; order hold_top hold_right' && echo "${few#* }" >"$at/orders/${few% *}" && start_beside
+    for few in 'processors 2' 'memory MemAvailable: 7300000 kB' 'limit 8000000000'; do
+        make_case "few ${few%% *}" 'add_more; order hold_top hold_right' && echo "${few#* }" >"$at/orders/${few%% *}"
+        [ "${few%% *}" != limit ] || echo 600000000 >"$at/orders/held"
+        start_beside
         check "at $few two are proved at once, and no more" 'eventually have_begun top right && waits left'
         disorder hold_top hold_right && finish
     done

@@ -46,7 +46,8 @@ make_program() {
 }
 case ${0##*/} in
 nproc) cat "$orders/processors" ;;
-sed) if [[ $* == *MemAvailable* ]]; then cat "$orders/memory"; else PATH=${PATH#*:} exec sed "$@"; fi ;;
+sed) if [[ $* == *MemAvailable* ]]; then set -- "$1" "$2" "$orders/"{memory,limit,held}; fi
+    PATH=${PATH#*:} exec sed "$@" ;;
 sleep) PATH=${PATH#*:} exec sleep "${1/60/1}" ;; # (a minute is a second)
 du) PATH=${PATH#*:} exec du "${@/%.%N/}" ;; # (times in whole seconds)
 uname) echo "$(<"$orders/machine")" ;;
