@@ -1,7 +1,8 @@
 #!/usr/bin/env bash
-# Makes dist/ anew: packed, the program that was proved here of the sources as they are, and a record of it. By that the launcher
-# takes it in another checkout of these sources, and the gate compares its own with it. By hand, behind the gate, and in the last
-# commit of a piece of work alone, as the history grows by a packed program each time.
+# Makes dist/ anew: packed, the program that was proved here of the sources as they are, and a record of it; and the page that has
+# it, which takes some minutes where page.sh has not made it yet. By the record the launcher takes the program in another checkout of
+# these sources, and the gate compares its own with both. By hand, behind the gate, and in the last commit of a piece of work alone, as
+# the history grows by a packed program and a page each time.
 #
 #     .ci/run && tools/build/release.sh
 #
@@ -11,11 +12,13 @@ root=$(dirname "$(dirname "$(dirname "$(readlink -f "${BASH_SOURCE[0]}")")")")
 # shellcheck source=tools/build/choose.sh
 . "$root/tools/build/choose.sh" && check_out && look || exit 1
 is_proved || say 'no program is kept that was proved here, of the sources as they are: .ci/run proves it, and ./pdb_cli prove-here' || exit
-others=$(cd -- "$root" && find_paths && git status --porcelain -- crates.txt "${paths[@]}") && [ -z "$others" ] ||
+others=$(cd -- "$root" && find_paths && paths+=(crates.txt web tools/build/page.sh docs/results/korf_1985.claims) &&
+    git status --porcelain -- "${paths[@]}") && [ -z "$others" ] ||
     say "git has other sources than these, so a clone has them: ${others//$'\n'/,}" || exit
+"$root/tools/build/page.sh" || exit
 needs=$(grep -ao 'GLIBC_[0-9.]*' "$program" | sort -V | tail -n 1)
-rm -rf -- "$root/dist" && mkdir -- "$root/dist" && gzip -9nc -- "$program" >"$root/dist/pdb_cli.gz" &&
-    packed=$(sha256sum <"$root/dist/pdb_cli.gz") && tee -- "$release" <<END
+rm -rf -- "$root/dist" && mkdir -- "$root/dist" && cp -- "$kept/page/pdb_cli.html" "$root/dist" &&
+    gzip -9nc -- "$program" >"$root/dist/pdb_cli.gz" && packed=$(sha256sum <"$root/dist/pdb_cli.gz") && tee -- "$release" <<END
 program $own
 sources $of
 kit $by

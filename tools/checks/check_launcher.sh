@@ -37,7 +37,7 @@ make_case() {
         "$kit/"{bin,c,logic_built,toolchain/{bin,lib},rattle/logic,rlibs/{std,hex}.rlib}
     cp -r "$root/pdb_cli" "$root/.ci" "$checkout"
     cp "$root/tools/build/"* "$checkout/tools/build"
-    tee "$kit/bin/"{rt,rattle,rattle-link,nproc,sed,sleep,whole} "$checkout/tools/checks/"check_{runs,launcher}.sh \
+    tee "$kit/bin/"{rt,rattle,rattle-link,nproc,sed,sleep,whole} "$checkout/tools/"{build/page.sh,checks/check_{runs.sh,launcher.sh,page.py}} \
         <"$root/tools/checks/stand_in.sh" >/dev/null
     chmod +x "$kit/bin/"* "$checkout/tools/checks/"*
     echo 'kit 1' | tee "$kit/"{KIT-ID,c/c.a,logic_built/x,toolchain/{bin,lib}/x,rattle/logic/antt-project.json,rlibs/{std,hex}.rlib/format} \
@@ -52,6 +52,7 @@ make_case() {
     echo 4 >"$at/orders/processors" && echo 'MemAvailable:   99000000 kB' >"$at/orders/memory" && touch "$at/orders/"{calls,processes}
     answer rt 0 '5 passed, 0 failed'
     answer check_runs.sh 0 '3 passed, 0 failed'
+    answer check_page.py 0 '4 passed, 0 failed'
     answer check_launcher.sh 0 '2 passed, 0 failed'
     do_there "${2-}"
     [ "${#plain[@]}" = 0 ] || chown -R 65534:65534 "$at"
@@ -414,29 +415,30 @@ gate() { by=("$checkout/.ci/run") && start && by=("$launcher") words=(sources); 
 try_gate() { make_case "gate_$1" "words=(); $2" && gate && check ".ci/run, $1" "counted $3"; }
 counted() { [ "$status" = "$1" ] && [ "$(tail -n 1 "$at/stdout")" = "$2 passed, $3 failed" ]; }
 stale() { [ "$(tail -n 2 "$at/stdout" | head -n 1)" = 'dist/ has no program of these sources: tools/build/release.sh makes it' ]; }
-gates='all_passes | true | 0 10 0 && stale && grep -q "^5 passed" "$at/stdout" && grep -q "^== [0-9]* s: env RT_JOBS=4 rt ci$" "$at/stdout" && [ "$(calls "^check_runs.sh$")" = 1 ]
+gates='all_passes | true | 0 14 0 && stale && grep -q "^5 passed" "$at/stdout" && grep -q "^== [0-9]* s: env RT_JOBS=4 rt ci$" "$at/stdout" && [ "$(calls "^check_runs.sh$")$(calls "^check_page.py$")" = 11 ]
 failure_of_rt_ci | answer rt 1 "4 passed, 1 failed" | 1 9 1
-failure_of_the_runs | answer check_runs.sh 1 "2 passed, 1 failed" | 1 9 1
-failure_of_the_launcher | answer check_launcher.sh 1 "1 passed, 1 failed" | 1 9 1
-failure_with_status_0 | answer check_runs.sh 0 "2 passed, 1 failed" | 1 9 1
+failure_of_the_runs | answer check_runs.sh 1 "2 passed, 1 failed" | 1 13 1
+failure_of_the_page | answer check_page.py 1 "3 passed, 1 failed" | 1 13 1
+failure_of_the_launcher | answer check_launcher.sh 1 "1 passed, 1 failed" | 1 13 1
+failure_with_status_0 | answer check_runs.sh 0 "2 passed, 1 failed" | 1 13 1
 status_that_is_not_0 | answer rt 1 "5 passed, 0 failed" | 1 10 1
-script_that_breaks_off | answer check_runs.sh 0 "line 7: unbound variable" | 1 7 1
+script_that_breaks_off | answer check_runs.sh 0 "line 7: unbound variable" | 1 11 1
 rt_ci_that_breaks_off | answer rt 0 Killed | 1 5 1
-nothing_tried | answer check_runs.sh 0 "0 passed, 0 failed" | 1 7 1
+nothing_tried | answer check_runs.sh 0 "0 passed, 0 failed" | 1 11 1
 no_program | order make_none | 1 7 1
 gate_that_stops_at_once | order fail_at_once | 1 2 2
 source_that_changes | order edit_once | 1 10 1
 no_rt | path=$work/bin | 1 2 2
-no_script | rm tools/checks/check_launcher.sh | 1 8 1
+no_script | rm tools/checks/check_launcher.sh | 1 12 1
 no_functions | rm tools/build/build.sh | 1 0 1
 out_that_git_tracks | plant; commit | 1 2 1
-released | cp -r "$work/dist" . | 0 11 0 && ! stale && grep -qx "the program is that of dist/, byte for byte" "$at/stdout"
-byte_turned | cp -r "$work/dist" .; turn dist/pdb_cli.gz 30 | 1 10 1 && said "is not what dist/RELEASE names"
-other_program_released | cp -r "$work/dist" .; repack "#!/bin/sh" "echo other" | 1 10 1 && said "is not that of dist/"
-other_program_by_that_name | cp -r "$work/dist" .; name=$(sed -n 1p dist/RELEASE); repack "#!/bin/sh" "echo other"; sed -i "1s/.*/$name/" dist/RELEASE | 1 10 1 && said "is not that of dist/"
-other_sources | cp -r "$work/dist" .; low LOW | 0 10 0 && stale
-release | cp -r "$work/dist" .; words=(release) | 0 11 0
-release_of_other_sources | cp -r "$work/dist" .; low LOW; words=(release) | 1 10 1 && stale
+released | cp -r "$work/dist" . | 0 15 0 && ! stale && grep -qx "the program is that of dist/, byte for byte" "$at/stdout"
+byte_turned | cp -r "$work/dist" .; turn dist/pdb_cli.gz 30 | 1 14 1 && said "is not what dist/RELEASE names"
+other_program_released | cp -r "$work/dist" .; repack "#!/bin/sh" "echo other" | 1 14 1 && said "is not that of dist/"
+other_program_by_that_name | cp -r "$work/dist" .; name=$(sed -n 1p dist/RELEASE); repack "#!/bin/sh" "echo other"; sed -i "1s/.*/$name/" dist/RELEASE | 1 14 1 && said "is not that of dist/"
+other_sources | cp -r "$work/dist" .; low LOW | 0 14 0 && stale
+release | cp -r "$work/dist" .; words=(release) | 0 15 0 && [ "$(calls "^check_page.py --release$")" = 1 ]
+release_of_other_sources | cp -r "$work/dist" .; low LOW; words=(release) | 1 14 1 && stale
 other_word | words=(releases) | 2 0 0 || [ "$status" = 2 ]'
 group_gates() {
     for_rows try_gate "$gates"
@@ -454,8 +456,11 @@ group_gates() {
 make_release() {
     make_case template commit && by=("$checkout/tools/build/release.sh") words=() && start
     check 'nothing is released that is not proved' '[ "$status" = 1 ] && said "no program is kept" && [ ! -e "$checkout/dist" ]'
-    by=("$launcher") words=(sources) && start && by=("$checkout/tools/build/release.sh") && start
-    check 'what is proved is released' '[ "$status" = 0 ] && cmp -s "$at/stdout" "$checkout/dist/RELEASE"' && cp -r "$checkout/dist" "$work"
+    by=("$launcher") words=(sources) && start && answer page.sh 1 "not made" && by=("$checkout/tools/build/release.sh") words=() && start
+    check 'nothing is released where no page is made' '[ "$status" = 1 ] && [ ! -e "$checkout/dist" ]'
+    answer page.sh 0 made && mkdir "$checkout/out/page" && echo '<!doctype html>' >"$checkout/out/page/pdb_cli.html" && start
+    check 'what is proved is released' '[ "$status" = 0 ] && tail -n 5 "$at/stdout" | cmp -s - "$checkout/dist/RELEASE"' && cp -r "$checkout/dist" "$work"
+    check 'the page is released too' 'cmp -s "$checkout/"{out/page,dist}/pdb_cli.html'
     by=("$launcher") && low LOW && start && by=("$checkout/tools/build/release.sh") && start
     check 'nothing is released that is not committed' '[ "$status" = 1 ] && said "other sources" && cmp -s "$work/dist/RELEASE" "$checkout/dist/RELEASE"'
 }

@@ -4,7 +4,7 @@
 # compiled to its text, with the texts of what it uses. Under the name `whole` it writes that of the program of the checkout $1.
 shopt -s nullglob
 at=$([[ $0 == /* ]] || echo "$PWD/")$0
-[[ $at != */tools/checks/* ]] || at=${at%/*}
+[[ $at != */tools/@(build|checks)/* ]] || at=${at%/*}
 at=${at%/*/*/*}
 orders=$at/orders
 is_ordered() { [ -e "$orders/$1" ]; }
