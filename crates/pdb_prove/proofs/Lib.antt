@@ -1,6 +1,5 @@
 pub mod LineLemmas
 pub mod PartLemmas
-pub mod PosedLemmas
 pub mod ReadyLemmas
 pub mod TellingLemmas
 pub mod SoonLemmas

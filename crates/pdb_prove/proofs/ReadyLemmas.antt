@@ -1,19 +1,22 @@
 -- The first claim of another side, and the automaton of reversals.
 use Rattle.std.proofs.Common.{◌≡◌, ◌≢◌, ◌==◌, ◌∙◌, not, true, ◌+◌, ◌*◌, ◌<◌, ℕ, zero, suc, List, [], ◌∷◌, ◌++◌, ap, arith, drop, get_or, length, map}
-use Rattle.std.proofs.Common.{refl, subst, sym, take, take-append-drop}
+use Rattle.std.proofs.Common.{inl, inr, refl, subst, sym, take, take-append-drop}
 use Rattle.std.specs.List.{All, AllByRecursion}
+use Rattle.std.proofs.lemmas.Bool.{cases_lt}
 use Rattle.std.proofs.lemmas.Grind.{common_steps}
-use Rattle.std.proofs.lemmas.List.{drop_more, map-append, take_more}
+use Rattle.std.proofs.lemmas.List.{drop_more, get_or_append_left, get_or_push, get_or_read, map-append, take_more}
 use Rattle.puz_board.specs.Boards.{side_of}
 use Rattle.puz_board.specs.declared.moves.Move.{Move}
 use Rattle.puz_board.specs.declared.moves.Move.TheVariants.{Up, Down, Left, Right}
 use Rattle.move_strings.specs.Automata.{IsState, reversal_steps}
+use Rattle.set_sum.specs.Bundles.{ShownBundle}
+use Rattle.puz_walk.specs.declared.starts.Start.{Start}
 use Rattle.puz_search.specs.Guides.{LeavesOutReturn}
 use Rattle.claim_text.specs.Claims.{ShownClaim}
 use Rattle.claim_text.specs.Shown.{claim_shown}
 use Rattle.claim_text.specs.declared.claims.Claim.{Claim}
 use Rattle.pdb_prove.specs.Prove.{IsFirstOfAnotherSide}
-use Rattle.pdb_prove.specs.Steps.{PrunesFor}
+use Rattle.pdb_prove.specs.Steps.{IsPosed, PrunesFor}
 
 -- the boards of these claims have this side
 abbrev pub HaveSide : ℕ → List ShownClaim → Type 0
@@ -59,6 +62,20 @@ pub each_side : (side : ℕ) (claims : List Claim) → HaveSide side (map claim_
 each_side side [] all k d low = absurd (omega (arith, low))
 each_side side (claim ∷ claims) all zero d low = all.0
 each_side side (claim ∷ claims) all (suc k) d low = each_side side claims all.1 k d (omega (arith, low))
+
+-- with the start from one board more, the claims so far and this one have their starts
+pub posed_more : (v : ShownBundle) (claims : List Claim) (starts : List Start) (claim : Claim) (start : Start) (i : ℕ) → i < length claims
+    → claim ≡ get_or claims i claim → length starts ≡ i
+    → ((k : ℕ) (c : Claim) (d : Start) → k < i → IsPosed v (get_or claims k c) (get_or starts k d)) → IsPosed v claim start
+    → (k : ℕ) (c : Claim) (d : Start) → k < i + 1 → IsPosed v (get_or claims k c) (get_or (starts ++ start ∷ []) k d)
+posed_more v claims starts claim start i low is size each here k c d next = elim (cases_lt k i) [
+  | inl below ↦
+      let there : k < length starts = omega (arith, below, size) in
+      subst (IsPosed v (get_or claims k c)) (sym (get_or_append_left starts (start ∷ []) d k there)) (each k c d below)
+  | inr above ↦
+      let same : k ≡ i = omega (arith, above, next) in
+      rw (same, get_or_push starts start d i size) (subst (λ (x : Claim). IsPosed v x start) (get_or_read claims i claim low is c) here)
+]
 
 -- what holds of four moves holds of each
 of_each : (P : Move → Type 0) → P Up → P Down → P Left → P Right → (move : Move) → P move

@@ -1,29 +1,31 @@
 -- Lines that are told one after the other.
-use Rattle.std.proofs.Common.{◌≡◌, ◌∙◌, ◌+◌, ◌-◌, ◌<◌, ◌≤◌, ◌&&◌, ap, ℕ, zero, suc, Bool, true, false, List, [], ◌∷◌, ◌++◌, Result, Ok, Err}
-use Rattle.std.proofs.Common.{append_assoc, arith, drop, get_or, length, map, refl, subst, sym, take, take-append-drop}
+use Rattle.std.proofs.Common.{◌≡◌, ◌∙◌, ◌+◌, ◌<◌, ◌≤◌, ◌&&◌, ap, ℕ, zero, suc, Bool, true, false, List, [], ◌∷◌, ◌++◌, Result, Ok, Err, IsErr, MatchResult}
+use Rattle.std.proofs.Common.{Option, Some, arith, drop, get_or, length, map, refl, slice_index_or, subst, sym, take, take-append-drop}
 use Rattle.std.specs.List.{All, AllZip}
 use Rattle.std.proofs.KnownBytes.{Appends-nil}
-use Rattle.std.proofs.Math.Seq.{take-add, take-length}
-use Rattle.std.proofs.lemmas.Grind.{common_steps, flat_map-append}
-use Rattle.std.proofs.lemmas.List.{append-nil, drop-map, drop_more, take-map}
-use Rattle.std.proofs.lemmas.List.Elements.{All-drop, All-take}
+use Rattle.std.proofs.Math.Seq.{take-length}
+use Rattle.std.proofs.lemmas.Grind.{flat_map-append}
+use Rattle.std.proofs.lemmas.List.{append-nil, length-map, map-append, take-map, take_more}
+use Rattle.std.proofs.lemmas.List.Elements.{All-tail}
 use Rattle.std.proofs.lemmas.List.Folds.{list_all-append}
 use Rattle.set_sum.specs.Bundles.{ShownBundle}
 use Rattle.puz_search.specs.Guides.{ShownGuide}
 use Rattle.claim_text.specs.Claims as claims
 use Rattle.claim_text.specs.Claims.{ShownAsks, ShownClaim}
-use Rattle.claim_text.specs.Lines.{Told, told_line}
-use Rattle.claim_text.specs.Shown.{claim_shown}
+use Rattle.claim_text.specs.Lines.{HasFewLetters, Told, told_line}
+use Rattle.claim_text.specs.Shown.{asks_shown, claim_shown}
 use Rattle.claim_text.specs.declared.claims.Claim.{Claim}
 use Rattle.byte_io.specs.Shelf.{Bytes}
 use Rattle.byte_io.specs.declared.streams.WriteFault.{WriteFault}
 use Rattle.byte_io.proofs.Appending.{writes_behind}
 use Rattle.pdb_run.specs.Io.{IsWritten}
 use Rattle.pdb_run.specs.Runs.{World}
-use Rattle.pdb_prove.specs.Answers.{IsFoundFor, IsFoundOf, IsToldOf, is_found_yes, is_yes, told_of}
-use Rattle.pdb_prove.specs.Steps.{AreAllTold, AreCut}
+use Rattle.pdb_prove.specs.Answers.{IsFoundFor, IsFoundOf, IsToldOf, are_yes, is_found_yes, is_yes, told_of}
+use Rattle.pdb_prove.specs.Prove.{told_lines}
+use Rattle.pdb_prove.specs.Steps.{AreAllTold, AreCut, AreFoundSoon, IsAskedOver, IsFoundAt, IsSameAsked, IsToldTo, claims_of}
 use Rattle.pdb_prove.specs.declared.answers.Finding.{Finding}
 use Rattle.pdb_prove.specs.declared.answers.Finding.TheVariants.{Bound, Optimum, Part, Refused, Shorter, Shortest}
+use Rattle.pdb_prove.specs.declared.asked.Asked.{Asked}
 
 abbrev Written : Type 0
 Written = Result (Unit {0}) WriteFault
@@ -39,12 +41,19 @@ written_behind {a} {b} {c} {xs} {ys} {r} p q = record {
   reader = q.reader ∙ p.reader;
 }
 
--- what is told of two lists of claims, one behind the other
-pub zip_behind : (v : ShownBundle) (budget : ℕ) (xs : List ShownClaim) (ys : List Told) (more : List ShownClaim) (rest : List Told)
-    → AllZip (IsToldOf v budget) xs ys → AllZip (IsToldOf v budget) more rest → AllZip (IsToldOf v budget) (xs ++ more) (ys ++ rest)
-zip_behind v budget [] [] more rest p q = q
-zip_behind v budget (x ∷ xs) (y ∷ ys) more rest p q = (p.0, zip_behind v budget xs ys more rest p.1 q)
-zip_behind v budget _ _ more rest p q = absurd p
+-- what is told of some claims, and of one behind them
+zip_more : (v : ShownBundle) (budget : ℕ) (xs : List ShownClaim) (ys : List Told) (claim : ShownClaim) (told : Told)
+    → AllZip (IsToldOf v budget) xs ys → IsToldOf v budget claim told → AllZip (IsToldOf v budget) (xs ++ claim ∷ []) (ys ++ told ∷ [])
+zip_more v budget [] [] claim told all is = (is, tt)
+zip_more v budget (x ∷ xs) (y ∷ ys) claim told all is = (all.0, zip_more v budget xs ys claim told all.1 is)
+zip_more v budget _ _ claim told all is = absurd all
+
+lines_more : (all : List Told) (told : Told) → told_lines (all ++ told ∷ []) ≡ told_lines all ++ told_line told
+lines_more all told = flat_map-append told_line all (told ∷ []) ∙ ap (λ line. told_lines all ++ line) (append-nil (told_line told))
+
+one_yes : (y : Bool) → y ≡ (y && true)
+one_yes true = refl
+one_yes false = refl
 
 module _ {v : ShownBundle} {budget : ℕ} where
   -- nothing was told of no claims
@@ -56,65 +65,29 @@ module _ {v : ShownBundle} {budget : ℕ} where
     written = record { written = (Appends-nil w.written.bytes, refl); calls = refl; files = refl; failed = refl; reader = refl };
   }
 
-  module _ {a b c : World} {claims more : List ShownClaim} {y : Bool} (all : AreAllTold v budget a b claims y) where
-    -- all of some claims were told, and all of more behind them
-    pub all_behind : {z : Bool} → AreAllTold v budget b c more z → AreAllTold v budget a c (claims ++ more) (y && z)
-    all_behind next = record {
-      told = all.told ++ next.told;
-      each = zip_behind v budget claims all.told more next.told all.each next.each;
-      yes = rw (all.yes, next.yes) (sym (list_all-append is_yes all.told next.told));
-      written = rw (flat_map-append told_line all.told next.told) (written_behind all.written next.written);
+  module _ {a b c : World} {claims : List ShownClaim} {claim : ShownClaim} {told : Told} {y : Bool} (all : AreAllTold v budget a b claims y)
+      (is : IsToldOf v budget claim told) where
+    -- all of some claims were told, and one behind them
+    all_more : IsWritten (told_line told) b c (Ok tt) → AreAllTold v budget a c (claims ++ claim ∷ []) (y && is_yes told)
+    all_more line = record {
+      told = all.told ++ told ∷ [];
+      each = zip_more v budget claims all.told claim told all.each is;
+      yes = ap (λ z. z && is_yes told) all.yes ∙ ap (λ z. are_yes all.told && z) (one_yes (is_yes told))
+          ∙ sym (list_all-append is_yes all.told (told ∷ []));
+      written = rw (lines_more all.told told) (written_behind all.written line);
     }
 
-    -- or some of more
-    pub cut_behind : AreCut v budget b c more → AreCut v budget a c (claims ++ more)
-    cut_behind next = record {
-      first = claims ++ next.first;
-      others = next.others;
-      order = rw next.order (sym (append_assoc claims next.first next.others));
-      told = all.told ++ next.told;
-      each = zip_behind v budget claims all.told next.first next.told all.each next.each;
-      fault = next.fault;
-      written = rw (flat_map-append told_line all.told next.told) (written_behind all.written next.written);
-    }
-
-  -- where some were told, there may be more
-  pub cut_before : {a b : World} {claims : List ShownClaim} (more : List ShownClaim) → AreCut v budget a b claims
-      → AreCut v budget a b (claims ++ more)
-  cut_before more cut = record {
-    first = cut.first;
-    others = cut.others ++ more;
-    order = rw cut.order (append_assoc cut.first cut.others more);
-    told = cut.told;
-    each = cut.each;
-    fault = cut.fault;
-    written = cut.written;
-  }
-
-  module _ {a b : World} {claim : ShownClaim} {told : Told} (is : IsToldOf v budget claim told) where
-    -- one claim was told
-    pub one_told : IsWritten (told_line told) a b (Ok tt) → AreAllTold v budget a b (claim ∷ []) (is_yes told)
-    one_told written = record {
-      told = told ∷ [];
-      each = (is, tt);
-      yes = one_yes (is_yes told);
-      written = rw (append-nil (told_line told)) written;
-    }
-      where
-        one_yes : (y : Bool) → y ≡ (y && true)
-        one_yes true = refl
-        one_yes false = refl
-
-    -- or its line was cut
-    pub one_cut : {fault : WriteFault} → IsWritten (told_line told) a b (Err fault) → AreCut v budget a b (claim ∷ [])
-    one_cut {fault} written = record {
-      first = claim ∷ [];
-      others = [];
+    -- or the line of this one was cut, whatever claims are behind it
+    cut_more : (others : List ShownClaim) {fault : WriteFault} → IsWritten (told_line told) b c (Err fault)
+        → AreCut v budget a c ((claims ++ claim ∷ []) ++ others)
+    cut_more others {fault} line = record {
+      first = claims ++ claim ∷ [];
+      others = others;
       order = refl;
-      told = told ∷ [];
-      each = (is, tt);
+      told = all.told ++ told ∷ [];
+      each = zip_more v budget claims all.told claim told all.each is;
       fault = fault;
-      written = rw (append-nil (told_line told)) written;
+      written = rw (lines_more all.told told) (written_behind all.written line);
     }
 
 -- ---- what is found for one claim
@@ -147,71 +120,96 @@ yes_told guide budget b (claims.moves text) (Refused refused) is = refl
 yes_told guide budget b (claims.bound r) (Refused refused) is = refl
 yes_told guide budget b (claims.part r p) (Refused refused) is = refl
 
--- its line was written whole
-pub found_told : {v : ShownBundle} {budget : ℕ} {a b : World} (claim : ShownClaim) (found : Finding) → IsFoundFor v budget claim found
-    → IsWritten (told_line (told_of claim.board claim.asks found)) a b (Ok tt) → AreAllTold v budget a b (claim ∷ []) (is_found_yes found)
-found_told {v} {budget} claim found is written =
-    rw (← yes_told is.guide budget claim.board claim.asks found is.is_found)
-    (one_told (record { found = found; is_found = is; is_told = refl }) written)
+-- ---- claims that are asked
 
--- or not
-pub found_cut : {v : ShownBundle} {budget : ℕ} {a b : World} (claim : ShownClaim) (found : Finding) → IsFoundFor v budget claim found
-    → {fault : WriteFault} → IsWritten (told_line (told_of claim.board claim.asks found)) a b (Err fault) → AreCut v budget a b (claim ∷ [])
-found_cut claim found is written = one_cut (record { found = found; is_found = is; is_told = refl }) written
+-- the first i claims, and the next one
+shown_more : (all : List Claim) (i : ℕ) (p : Claim) → i < length all → p ≡ get_or all i p
+    → take (i + 1) (map claim_shown all) ≡ take i (map claim_shown all) ++ claim_shown p ∷ []
+shown_more all i p low is =
+    take-map claim_shown (i + 1) all ∙ ap (map claim_shown) (take_more all i p low)
+    ∙ map-append claim_shown (take i all) (get_or all i p ∷ [])
+    ∙ ap (λ x. map claim_shown (take i all) ++ claim_shown x ∷ []) (sym is)
+    ∙ ap (λ xs. xs ++ claim_shown p ∷ []) (sym (take-map claim_shown i all))
 
--- ---- claims in a row
+-- each claim has few letters where all have
+pub few_at : (all : List Claim) (i : ℕ) (p : Claim) → i < length all → p ≡ get_or all i p → All HasFewLetters (map claim_shown all)
+    → HasFewLetters (claim_shown p)
+few_at [] i p low is few = absurd (omega (arith, low))
+few_at (first ∷ all) zero p low is few = rw is (few 0 (claim_shown p) (omega arith))
+few_at (first ∷ all) (suc i) p low is few =
+    few_at all i p (omega (arith, low)) is (All-tail HasFewLetters (claim_shown first) (map claim_shown all) few)
 
-module _ {v : ShownBundle} {budget : ℕ} {a b c : World} (shown : List ShownClaim) (i n : ℕ) {y : Bool}
-    (all : AreAllTold v budget a b (take i shown) y) where
-  -- the first i were told, and n behind them
-  pub next_told : {z : Bool} → AreAllTold v budget b c (take n (drop i shown)) z → AreAllTold v budget a c (take (i + n) shown) (y && z)
-  next_told next = rw (take-add i n shown) (all_behind all next)
+-- of claims of which none is told nothing was
+pub begun_told : (v : ShownBundle) (w : World) (asked : Asked) → asked.told ≡ 0 → asked.is_yes ≡ true → IsToldTo v w w asked
+begun_told v w asked none is_so = record { few = rw none (omega arith); all = rw (none, is_so) (none_told w) }
 
-  -- or m of these n
-  pub fewer_told : (m : ℕ) → m ≤ n → {z : Bool} → AreAllTold v budget b c (take m (take n (drop i shown))) z
-      → AreAllTold v budget a c (take (i + m) shown) (y && z)
-  fewer_told m few {z} next =
-      let same : take m (take n (drop i shown)) ≡ take m (drop i shown) = grind (arith, common_steps) in
-      rw (take-add i m shown) (all_behind all (subst (λ xs. AreAllTold v budget b c xs z) same next))
+module _ (v : ShownBundle) {begun old : World} (asked : Asked) (found : Finding) (p : Claim) (low : asked.told < length asked.claims.items)
+    (is : p ≡ get_or asked.claims.items asked.told p) (found_at : IsFoundAt v asked.budget asked.claims.items asked.told found)
+    (told : IsToldTo v begun old asked) where
+  found_for : IsFoundFor v asked.budget (claim_shown p) found
+  found_for = subst (λ (x : Claim). IsFoundFor v asked.budget (claim_shown x) found) (sym is) (found_at p)
 
-  -- or some of these
-  pub next_cut : AreCut v budget b c (take n (drop i shown)) → AreCut v budget a c shown
-  next_cut next =
-      let whole : (take i shown ++ take n (drop i shown)) ++ drop (i + n) shown ≡ shown =
-      rw (← take-add i n shown) (take-append-drop (i + n) shown) in
-      subst (λ all. AreCut v budget a c all) whole (cut_before (drop (i + n) shown) (cut_behind all next))
+  told_for : IsToldOf v asked.budget (claim_shown p) (told_of p.board (asks_shown p.asks) found)
+  told_for = record { found = found; is_found = found_for; is_told = refl }
 
--- where as many are told as there are, all are
-pub whole_told : {v : ShownBundle} {budget : ℕ} {a b : World} {y : Bool} (shown : List ShownClaim) (n : ℕ) → n ≡ length shown
-    → AreAllTold v budget a b (take n shown) y → AreAllTold v budget a b shown y
-whole_told {v} {budget} {a} {b} {y} shown n count told =
-    subst (λ xs. AreAllTold v budget a b xs y) (ap (λ k. take k shown) count ∙ take-length shown) told
+  -- the line of the next claim was written
+  pub next_told : {new : World} → IsWritten (told_line (told_of p.board (asks_shown p.asks) found)) old new (Ok tt)
+      → AreAllTold v asked.budget begun new (take (asked.told + 1) (claims_of asked)) (asked.is_yes && is_found_yes found)
+  next_told line =
+      rw (
+        shown_more asked.claims.items asked.told p low is,
+        ← yes_told found_for.guide asked.budget p.board (asks_shown p.asks) found found_for.is_found,
+      )
+      (all_more told.all told_for line)
 
--- the claims behind the first i, cut out of all claims
-pub rest_shown : (claims : List Claim) (i : ℕ) → map claim_shown (take (length claims - i) (drop i claims))
-    ≡ take (length claims - i) (drop i (map claim_shown claims))
-rest_shown claims i = rw (drop-map claim_shown i claims) (sym (take-map claim_shown (length claims - i) (drop i claims)))
+  -- or cut
+  pub next_cut : {new : World} {fault : WriteFault} → IsWritten (told_line (told_of p.board (asks_shown p.asks) found)) old new (Err fault)
+      → AreCut v asked.budget begun new (claims_of asked)
+  next_cut {new} line =
+      let shown = claims_of asked in
+      let parts : (take asked.told shown ++ claim_shown p ∷ []) ++ drop (asked.told + 1) shown ≡ shown =
+      ap (λ first. first ++ drop (asked.told + 1) shown) (sym (shown_more asked.claims.items asked.told p low is))
+      ∙ take-append-drop (asked.told + 1) shown in
+      subst (AreCut v asked.budget begun new) parts (cut_more told.all told_for (drop (asked.told + 1) shown) line)
 
--- the claim with a number below the count of claims
-pub claim_at : (claims : List Claim) (i : ℕ) → i < length claims → (claim : Claim) × (claim ≡ get_or claims i claim)
-claim_at [] i low = absurd (omega (arith, low))
-claim_at (claim ∷ claims) zero low = (claim, refl)
-claim_at (claim ∷ claims) (suc i) low = claim_at claims i (omega (arith, low))
+-- where no claim is left all were told
+pub whole_told : {v : ShownBundle} {begun new : World} (asked : Asked) → length asked.claims.items ≤ asked.told → IsToldTo v begun new asked
+    → AreAllTold v asked.budget begun new (claims_of asked) asked.is_yes
+whole_told {v} {begun} {new} asked done told =
+    let count = length-map asked.claims.items claim_shown in
+    let few = told.few in
+    let all : asked.told ≡ length (claims_of asked) = omega (arith, count, few, done) in
+    subst (λ xs. AreAllTold v asked.budget begun new xs asked.is_yes) (ap (λ k. take k (claims_of asked)) all ∙ take-length (claims_of asked)) told.all
 
--- the one claim with this number
-pub one_shown : (claims : List Claim) (i : ℕ) (claim : Claim) → i < length claims → claim ≡ get_or claims i claim
-    → claim_shown claim ∷ [] ≡ take 1 (drop i (map claim_shown claims))
-one_shown claims i claim low is =
-    rw (drop-map claim_shown i claims, drop_more claims i claim low, ← is) refl
+-- what was found soon for a claim of a batch is right for it once it is the next one
+pub soon_at : (v : ShownBundle) (begun now : Asked) (soon : List (Option Finding)) (place : ℕ) (found : Finding) {kept : Option Finding}
+    → AreFoundSoon v begun soon → place < length soon → kept ≡ slice_index_or soon place (Some found) → kept ≡ Some found
+    → IsSameAsked begun now → now.told ≡ begun.told + place → IsFoundAt v now.budget now.claims.items now.told found
+soon_at v begun now soon place found all low there is same told =
+    let at = rw (sym there ∙ is) at (all place (Some found) low) in rw (told, same.claims, same.budget) at
 
--- the n claims behind the first i, cut out of all claims
-pub batch_shown : (claims : List Claim) (i n : ℕ) → n ≤ length claims - i → (front : List Claim)
-    → front ≡ take n (take (length claims - i) (drop i claims)) → map claim_shown front ≡ take n (drop i (map claim_shown claims))
-batch_shown claims i n few front is =
-    let whole : take (length claims - i) (drop i claims) ≡ drop i claims = grind (arith, common_steps) in
-    ap (map claim_shown) (is ∙ ap (take n) whole) ∙ rw (drop-map claim_shown i claims) (sym (take-map claim_shown n (drop i claims)))
+-- what is found for the next claim is found at its place
+pub here_at : (v : ShownBundle) (asked : Asked) (p : Claim) (found : Finding) → ((other : Claim) → p ≡ get_or asked.claims.items asked.told other)
+    → IsFoundFor v asked.budget (claim_shown p) found → IsFoundAt v asked.budget asked.claims.items asked.told found
+here_at v asked p found is found_for other = subst (λ (x : Claim). IsFoundFor v asked.budget (claim_shown x) found) (is other) found_for
 
--- what holds of all claims holds of these
-pub all_in_batch : (P : Claim → Type 0) (claims : List Claim) (i n : ℕ) (front : List Claim) → front ≡ take n (take (length claims - i) (drop i claims))
-    → All P claims → All P front
-all_in_batch P claims i n front is all = rw is (All-take P n _ (All-take P (length claims - i) _ (All-drop P i claims all)))
+-- claims that are the same are asked as before
+pub same_over : (v : ShownBundle) (begun now : Asked) → IsSameAsked begun now → IsAskedOver v begun → IsAskedOver v now
+same_over v begun now same over = record {
+  size = rw (same.starts, same.claims) over.size;
+  each = rw (same.starts, same.claims) over.each;
+  prunes = rw same.reversals over.prunes;
+}
+
+pub same_more : (a b c : Asked) → IsSameAsked a b → IsSameAsked b c → IsSameAsked a c
+same_more a b c p q = record {
+  claims = q.claims ∙ p.claims;
+  starts = q.starts ∙ p.starts;
+  reversals = q.reversals ∙ p.reversals;
+  budget = q.budget ∙ p.budget;
+}
+
+-- where a write failed, this holds
+pub cut_told : {A : Type 0} (T C : Type 0) (result : Result A WriteFault) → IsErr result → C → MatchResult result (λ _. T) (λ _. C)
+cut_told T C (Ok done) err cut = absurd (let e : false ≡ true = err in cc)
+cut_told T C (Err fault) err cut = cut

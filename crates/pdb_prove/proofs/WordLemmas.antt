@@ -1,6 +1,6 @@
 -- Words of tables, one after the other, and how many placements the tables have.
-use Rattle.std.proofs.Common.{true, false, ◌≡◌, ◌∙◌, ◌+◌, ◌*◌, ◌<◌, ◌≤◌, ◌⊎◌, ℕ, zero, suc, List, [], ◌∷◌, ◌++◌, Option, Some, None}
-use Rattle.std.proofs.Common.{inl, inr, ap, arith, drop, get_or, length, refl, slice_get, slice_index_or, sym, take}
+use Rattle.std.proofs.Common.{true, false, ◌≡◌, ◌∙◌, ◌+◌, ◌*◌, ◌<◌, ◌⊎◌, ℕ, zero, suc, List, [], ◌∷◌, ◌++◌, Option, Some, None}
+use Rattle.std.proofs.Common.{MatchOption, inl, inr, is_some, ap, arith, drop, get_or, length, refl, slice_get, slice_index_or, sym, take}
 use Rattle.std.specs.List.{sum_by}
 use Rattle.std.proofs.lemmas.Bool.{cases_lt}
 use Rattle.std.proofs.lemmas.Grind.{common_steps}
@@ -16,8 +16,8 @@ use Rattle.set_sum.specs.declared.parts.Part.TheVariants.{Full}
 use Rattle.set_sum.proofs.ListLemmas.{get_or-slice_get}
 use Rattle.edge_words.specs.Words.{ShownWords}
 use Rattle.puz_walk.specs.WordBundles.{HasWords, pattern_at}
-use Rattle.pdb_prove.specs.Steps.{HaveRooms, IsStopped, IsWantedIf}
-use Rattle.pdb_prove.specs.declared.prepared.Prepared.{Prepared}
+use Rattle.pdb_prove.specs.Steps.{HaveRooms, IsRoomFor, IsWantedIf}
+use Rattle.pdb_prove.specs.declared.words.TableWords.{TableWords}
 
 same_below : {X : Type 0} (xs : List X) (y x : X) (t : ℕ) → t < length xs → slice_get (xs ++ y ∷ []) t ≡ Some x → slice_get xs t ≡ Some x
 same_below xs y x t low is = grind (arith, common_steps, gets)
@@ -25,18 +25,29 @@ same_below xs y x t low is = grind (arith, common_steps, gets)
 last_is : {X : Type 0} (xs : List X) (y x : X) → slice_get (xs ++ y ∷ []) (length xs) ≡ Some x → x ≡ y
 last_is xs y x is = grind (arith, common_steps, gets)
 
--- where something is found, nothing is prepared
-pub not_wanted : {A : Type 0} (found : A) (v : ShownBundle) (prepared : Option Prepared) → IsWantedIf (Some found) v prepared → prepared ≡ None
+-- where something is found, no words are wanted
+pub not_wanted : {A : Type 0} (found : A) (v : ShownBundle) (words : Option TableWords) → IsWantedIf (Some found) v words → words ≡ None
 not_wanted found v None is = refl
-not_wanted found v (Some prepared) is = absurd (let e : true ≡ false = is.0 in cc)
+not_wanted found v (Some words) is = absurd (let e : true ≡ false = is.0 in cc)
 
--- where all claims are told, nothing is prepared
-pub all_told : (told count : ℕ) (v : ShownBundle) (prepared : Option Prepared) → IsStopped told count v prepared → count ≤ told → prepared ≡ None
-all_told told count v None is all = refl
-all_told told count v (Some prepared) is all = absurd (let few = is.0 in omega arith)
+-- and else there is all memory for them
+pub room_wanted : (A : Type 0) (v : ShownBundle) (words : Option TableWords) → IsWantedIf {A = A} None v words → (Else : Type 0)
+    → MatchOption words Else (IsRoomFor v)
+room_wanted A v None is Else = absurd (let e : false ≡ true = is in cc)
+room_wanted A v (Some words) is Else = is.1
+
+-- the same, asked of the words
+pub none_wanted : (words : Option TableWords) → is_some words ≡ false → words ≡ None
+none_wanted None none = refl
+none_wanted (Some words) none = absurd (let e : true ≡ false = none in cc)
+
+pub some_wanted : (v : ShownBundle) (Else Other : Type 0) (words : Option TableWords) → is_some words ≡ true
+    → MatchOption words Else (IsRoomFor v) → MatchOption words Other (IsRoomFor v)
+some_wanted v Else Other None some is = absurd (let e : false ≡ true = some in cc)
+some_wanted v Else Other (Some words) some is = is
 
 -- an element of a list with one more is one of the list, or that one
-pub get_push : {X : Type 0} (xs : List X) (y x : X) (t : ℕ) → slice_get (xs ++ y ∷ []) t ≡ Some x
+get_push : {X : Type 0} (xs : List X) (y x : X) (t : ℕ) → slice_get (xs ++ y ∷ []) t ≡ Some x
     → (slice_get xs t ≡ Some x) ⊎ ((t ≡ length xs) × (x ≡ y))
 get_push [] y x zero is = inr (refl, (let s : Some y ≡ Some x = is in cc))
 get_push [] y x (suc t) is = absurd (let s : None ≡ Some x = is in cc)

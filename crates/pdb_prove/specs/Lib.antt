@@ -3,5 +3,4 @@ pub mod Answers
 pub mod Laws
 pub mod Prove
 -- What proofs alone need.
-pub mod Posed
 pub mod Steps

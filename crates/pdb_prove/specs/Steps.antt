@@ -1,16 +1,20 @@
 -- What the steps of a run of claims say.
-use Rattle.std.specs.Prelude.{◌≡◌, ℕ, ◌*◌, ◌<◌, ◌≤◌, ◌++◌, Bool, true, false, List, [], length, slice_get, slice_index_or, take}
-use Rattle.std.specs.Prelude.{Option, Some, None, IfSome, IsNone, IsSome, MatchOption, Result, Ok, Err, MatchResult, Vec, vec_capacity}
+use Rattle.std.specs.Borrow.{Bor}
+use Rattle.std.specs.Prelude.{◌≡◌, ⊤, ℕ, ◌+◌, ◌*◌, ◌<◌, ◌≤◌, ◌++◌, Bool, true, false, List, [], length, map, slice_get, slice_index_or, take}
+use Rattle.std.specs.Prelude.{Option, Some, None, IfSome, IsNone, IsSome, Result, Ok, Err, MatchResult, Vec, vec_capacity}
 use Rattle.std.specs.List.{AllZip, sum_by}
-use Rattle.puz_board.specs.MovesTexts.{Solves}
 use Rattle.pat_place.specs.Patterns.{ShownPattern}
 use Rattle.pat_place.specs.Ranks.{falling_factorial}
 use Rattle.move_strings.specs.Automata.{ShownAutomaton}
 use Rattle.set_sum.specs.Bundles.{ShownBundle}
+use Rattle.puz_walk.specs.Starts.{IsStart}
 use Rattle.puz_walk.specs.WordBundles.{most_worded, pattern_at}
-use Rattle.puz_search.specs.Guides.{LeavesOutReversals}
-use Rattle.claim_text.specs.Claims as claims
-use Rattle.claim_text.specs.Claims.{ShownAsks, ShownClaim}
+use Rattle.puz_walk.specs.declared.starts.Start.{Start}
+use Rattle.puz_search.specs.Answers.{IsAnswerInTurn}
+use Rattle.puz_search.specs.Guides.{LeavesOutReversals, ShownGuide}
+use Rattle.puz_search.specs.declared.answers.SearchAnswer.{SearchAnswer}
+use Rattle.puz_search.specs.declared.answers.SearchAnswer.TheVariants as search
+use Rattle.claim_text.specs.Claims.{ShownClaim}
 use Rattle.claim_text.specs.Lines.{Told}
 use Rattle.claim_text.specs.Shown.{claim_shown}
 use Rattle.claim_text.specs.Texts.{AreClaims}
@@ -18,32 +22,29 @@ use Rattle.claim_text.specs.declared.claims.Claim.{Claim}
 use Rattle.claim_text.specs.declared.faults.ClaimsFault.{ClaimsFault}
 use Rattle.claim_text.specs.declared.faults.ClaimsFault.TheVariants as claims_fault
 use Rattle.byte_io.specs.declared.streams.WriteFault.{WriteFault}
+use Rattle.pdb_request.specs.Asked.{ProveArguments}
 use Rattle.pdb_request.specs.declared.requests.Prove.{Prove}
 use Rattle.pdb_run.specs.Answers.{all_bytes}
-use Rattle.pdb_run.specs.Io.{IsWritten}
+use Rattle.pdb_run.specs.Io.{HasRead, IsWritten}
 use Rattle.pdb_run.specs.Runs.{World}
+use Rattle.pdb_run.specs.Writing.{digests_of}
 use Rattle.pdb_verdict.specs.Refusals.{IsCauseBy}
 use Rattle.pdb_verdict.specs.declared.verdicts.Fault.{Fault}
 use Rattle.pdb_verdict.specs.declared.verdicts.Fault.TheVariants as fault
-use Rattle.pdb_prove.specs.Answers.{IsFoundFor, IsToldOf, are_yes}
-use Rattle.pdb_prove.specs.Prove.{ClaimsFiles, IsUnready, told_lines}
-use Rattle.pdb_prove.specs.declared.batches.OneTold.{OneTold}
-use Rattle.pdb_prove.specs.declared.batches.Telling.{Telling}
-use Rattle.pdb_prove.specs.declared.prepared.Prepared.{Prepared}
-use Rattle.pdb_prove.specs.declared.runs.ClaimsRead.{ClaimsRead}
-use Rattle.pdb_prove.specs.declared.runs.Wanted.{Wanted}
+use Rattle.pdb_prove.specs.Answers.{IsFoundBy, IsFoundFor, IsShortestFor, IsToldOf, are_yes}
+use Rattle.pdb_prove.specs.Prove.{AreReady, ClaimsFiles, IsUnready, digested_files, in_order, prove_inputs, told_lines}
 use Rattle.pdb_prove.specs.declared.answers.Finding.{Finding}
-use Rattle.pdb_prove.specs.declared.answers.Finding.TheVariants.{Refused}
+use Rattle.pdb_prove.specs.declared.answers.Finding.TheVariants.{Refused, Shorter}
 use Rattle.pdb_prove.specs.declared.answers.Question.{Question}
-use Rattle.pdb_prove.specs.declared.answers.Question.TheVariants.{Bound, Moves, Part, Shortest}
+use Rattle.pdb_prove.specs.declared.answers.Question.TheVariants.{Below, Shortest}
+use Rattle.pdb_prove.specs.declared.asked.Asked.{Asked}
+use Rattle.pdb_prove.specs.declared.words.TableWords.{TableWords}
+
+-- ---- before anything is searched
 
 -- the files that were read for claims
-abbrev pub files_read : {A : Type 0} → Prove (Vec ℕ A) (Vec ℕ A) → ClaimsFiles
-files_read prove = record { claims = prove.claims.items; sets = prove.sets.items; tables = all_bytes prove.tables.items }
-
--- the files of claims that were read, with these tables
-abbrev pub files_of : {A : Type 0} → ClaimsRead → List (Vec ℕ A) → ClaimsFiles
-files_of read tables = record { claims = read.text.now; sets = read.sets.now; tables = all_bytes tables }
+abbrev pub files_of : {A : Type 0} → Prove (Bor (List ℕ)) (Vec ℕ A) → ClaimsFiles
+files_of read = record { claims = read.claims.now; sets = read.sets.items; tables = all_bytes read.tables.items }
 
 -- why nothing is searched, or want of memory, which comes of a text of claims alone
 abbrev pub IsCauseForClaims : Bool → ClaimsFiles → Fault → Type 0
@@ -54,37 +55,70 @@ abbrev pub of_claims : ClaimsFault → Fault
 of_claims (claims_fault.Q1 line) = fault.Q1 line
 of_claims claims_fault.Memory = fault.Memory
 
--- how many placements the tables of a bundle have together
-abbrev pub placements_of : ShownBundle → ℕ
-placements_of v = sum_by (λ table. falling_factorial (v.side * v.side) (length table.tiles)) v.tables
+-- the files of claims that are ready were read, and the digests written
+pub record HasBegun (arguments : ProveArguments) (files : ClaimsFiles) (old new : World) (claims : List ShownClaim) (v : ShownBundle) : Type 0 where
+  pub read : World
+  pub are : HasRead (prove_inputs arguments) old read (in_order files)
+  pub ready : AreReady arguments.fold files claims v
+  pub head : IsWritten (digests_of (digested_files files)) read new (Ok tt)
 
 -- ---- one claim
 
--- this is to be searched for where a claim asks this of a board
-abbrev pub IsQuestionOf : List ℕ → ShownAsks → Question → Type 0
-IsQuestionOf b claims.shortest question = question ≡ Shortest
-IsQuestionOf b (claims.moves text) question = (n : ℕ) × Solves b text n × (question ≡ Moves n)
-IsQuestionOf b (claims.bound r) question = question ≡ Bound r
-IsQuestionOf b (claims.part r p) question = question ≡ Part (record { bound = r; part = Some p })
+-- what is found where a search for a solution of fewer moves answers this, and the first where there is none
+abbrev pub found_below : Finding → SearchAnswer → Finding
+found_below refuted (search.Refuted boards) = refuted
+found_below refuted (search.Solved letters) = Shorter letters
+found_below refuted search.Spent = Refused (fault.K1 None)
 
-abbrev pub IsAskedOf : ShownClaim → Question → Type 0
-IsAskedOf claim question = IsQuestionOf claim.board claim.asks question
+-- what a search for this finds is right for the claim
+abbrev pub IsQuestionOf : ShownClaim → Question → Type 0
+IsQuestionOf claim Shortest =
+    (guide : ShownGuide) (budget : ℕ) (found : Finding) → IsShortestFor guide budget claim.board found → IsFoundBy guide budget claim found
+IsQuestionOf claim (Below bound refuted) =
+    (guide : ShownGuide) (budget : ℕ) (answer : SearchAnswer) → IsAnswerInTurn guide bound.part claim.board bound.bound budget answer
+    → IsFoundBy guide budget claim (found_below refuted answer)
 
 -- what is found is that the budget is spent
 abbrev pub is_spent : Finding → Bool
 is_spent (Refused (fault.K1 bound)) = true
 is_spent _ = false
 
--- ---- the claims of a batch
+-- ---- claims that are asked
+
+abbrev pub claims_of : Asked → List ShownClaim
+claims_of asked = map claim_shown asked.claims.items
+
+-- the claims and their budget are the same
+pub record IsSameAsked (old new : Asked) : Type 0 where
+  pub claims : new.claims ≡ old.claims
+  pub starts : new.starts ≡ old.starts
+  pub reversals : new.reversals ≡ old.reversals
+  pub budget : new.budget ≡ old.budget
+
+-- an automaton for boards of a side that leaves out each move which takes the one before it back
+abbrev pub PrunesFor : ℕ → ShownAutomaton → Type 0
+PrunesFor side automaton = (automaton.side ≡ side) × LeavesOutReversals automaton.steps
+
+-- a search for the claim begins so
+pub record IsPosed (v : ShownBundle) (claim : Claim) (start : Start) : Type 0 where
+  pub is_start : IsStart v start
+  pub board : start.board ≡ claim.board
+
+-- the search for each claim begins with its start, and the automaton of reversals is of the boards' side
+pub record IsAskedOver (v : ShownBundle) (asked : Asked) : Type 0 where
+  pub size : length asked.starts.items ≡ length asked.claims.items
+  pub each : (number : ℕ) (claim : Claim) (start : Start) → number < length asked.claims.items
+      → IsPosed v (slice_index_or asked.claims.items number claim) (slice_index_or asked.starts.items number start)
+  pub prunes : PrunesFor v.side asked.reversals
 
 -- this is found for the claim with the number
 abbrev pub IsFoundAt : ShownBundle → ℕ → List Claim → ℕ → Finding → Type 0
 IsFoundAt v budget all number found = (other : Claim) → IsFoundFor v budget (claim_shown (slice_index_or all number other)) found
 
--- what was found soon for some of the claims, each in its place
-abbrev pub AreFoundSoon : ShownBundle → ℕ → List Claim → List (Option Finding) → Type 0
-AreFoundSoon v budget all soon =
-    (number : ℕ) (other : Option Finding) → number < length soon → IfSome (slice_index_or soon number other) (IsFoundAt v budget all number)
+-- what was found soon for some of the next claims, each in its place
+abbrev pub AreFoundSoon : ShownBundle → Asked → List (Option Finding) → Type 0
+AreFoundSoon v asked soon = (place : ℕ) (other : Option Finding) → place < length soon
+    → IfSome (slice_index_or soon place other) (IsFoundAt v asked.budget asked.claims.items (asked.told + place))
 
 -- ---- the lines of claims, one after the other
 
@@ -106,27 +140,21 @@ module _ (v : ShownBundle) (budget : ℕ) (old new : World) where
     pub fault : WriteFault
     pub written : IsWritten (told_lines told) old new (Err fault)
 
--- one of the two
-abbrev pub AreTold : ShownBundle → ℕ → List ShownClaim → World → World → Result OneTold WriteFault → Type 0
-AreTold v budget claims old new result =
-    MatchResult result (λ one. AreAllTold v budget old new claims one.is_yes) (λ _. AreCut v budget old new claims)
-
--- so many claims were answered, the first ones, and their lines written
-pub record IsToldTo (v : ShownBundle) (budget : ℕ) (claims : List ShownClaim) (old new : World) (telling : Telling) : Type 0 where
-  pub few : telling.told ≤ length claims
-  pub all : AreAllTold v budget old new (take telling.told claims) telling.is_yes
+-- the claims that are told, of those that are asked, were answered, and their lines written
+pub record IsToldTo (v : ShownBundle) (old new : World) (asked : Asked) : Type 0 where
+  pub few : asked.told ≤ length asked.claims.items
+  pub all : AreAllTold v asked.budget old new (take asked.told (claims_of asked)) asked.is_yes
 
 -- the same, or a front was written
-abbrev pub IsTelling : ShownBundle → ℕ → List ShownClaim → World → World → Result Telling WriteFault → Type 0
-IsTelling v budget claims old new result = MatchResult result (IsToldTo v budget claims old new) (λ _. AreCut v budget old new claims)
+abbrev pub IsTelling : ShownBundle → World → World → Asked → Result ⊤ WriteFault → Type 0
+IsTelling v old new asked result =
+    MatchResult result (λ _. IsToldTo v old new asked) (λ _. AreCut v asked.budget old new (claims_of asked))
 
--- all were answered, or nothing was written since words are wanted first, or a front was written
-abbrev pub IsToldOrWanted : ShownBundle → ℕ → List ShownClaim → World → World → Result (Option OneTold) WriteFault → Type 0
-IsToldOrWanted v budget claims old new result =
-    MatchResult result (λ one. MatchOption one (new ≡ old) (λ told. AreAllTold v budget old new claims told.is_yes))
-    (λ _. AreCut v budget old new claims)
+-- ---- the words of tables
 
--- ---- the memory for words
+-- how many placements the tables of a bundle have together
+abbrev pub placements_of : ShownBundle → ℕ
+placements_of v = sum_by (λ table. falling_factorial (v.side * v.side) (length table.tiles)) v.tables
 
 -- there is memory for the words of each table of a bundle
 pub record HaveRooms (v : ShownBundle) (rooms : List ShownPattern) : Type 0 where
@@ -134,28 +162,14 @@ pub record HaveRooms (v : ShownBundle) (rooms : List ShownPattern) : Type 0 wher
   pub each : (table : ℕ) (room : ShownPattern) → slice_get rooms table ≡ Some room → room ≡ pattern_at v table
 
 -- there is all memory for the words of the tables of a bundle
-pub record IsPreparedFor (v : ShownBundle) (prepared : Prepared) : Type 0 where
+pub record IsRoomFor (v : ShownBundle) (words : TableWords) : Type 0 where
   pub few : length v.tables ≤ most_worded
-  pub outline : prepared.outline.value ≡ v
-  pub rooms : HaveRooms v prepared.rooms.items
-  pub empty : prepared.words.items ≡ []
-  pub room : length v.tables ≤ vec_capacity prepared.words
+  pub outline : words.outline.value ≡ v
+  pub rooms : HaveRooms v words.rooms.items
+  pub empty : words.words.items ≡ []
+  pub room : length v.tables ≤ vec_capacity words.words
 
--- where something is found nothing is prepared, and else all is
-abbrev pub IsWantedIf : {A : Type 0} → Option A → ShownBundle → Option Prepared → Type 0
+-- where something is found no words are wanted, and else there is all memory for them
+abbrev pub IsWantedIf : {A : Type 0} → Option A → ShownBundle → Option TableWords → Type 0
 IsWantedIf found v None = IsSome found
-IsWantedIf found v (Some prepared) = IsNone found × IsPreparedFor v prepared
-
--- so many of some claims are told: all where nothing is prepared, and else fewer
-abbrev pub IsStopped : ℕ → ℕ → ShownBundle → Option Prepared → Type 0
-IsStopped told count v None = told ≡ count
-IsStopped told count v (Some prepared) = (told < count) × IsPreparedFor v prepared
-
--- an automaton for boards of a side that leaves out each move which takes the one before it back
-abbrev pub PrunesFor : ℕ → ShownAutomaton → Type 0
-PrunesFor side automaton = (automaton.side ≡ side) × LeavesOutReversals automaton.steps
-
--- there is all memory for the words, and an automaton of strings for boards of the side, if there is one
-pub record IsWantedFor (v : ShownBundle) (wanted : Wanted) : Type 0 where
-  pub prepared : IsPreparedFor v wanted.prepared
-  pub strings : IfSome wanted.strings (PrunesFor v.side)
+IsWantedIf found v (Some words) = IsNone found × IsRoomFor v words

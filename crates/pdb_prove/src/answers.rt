@@ -1,16 +1,15 @@
 //! The answer to one claim, by one thread or by all workers.
 
-ghost use Rattle.std.specs.Prelude.{◌≡◌, ℕ, IfErr, IfOk, IfSome, List, None, Some, min};
+ghost use Rattle.std.specs.Prelude.{◌≡◌, ℕ, IfErr, IfOk, IfSome, List};
 ghost use Rattle.puz_board.specs.MovesTexts.{Solves};
+ghost use Rattle.claim_text.specs.Claims.{ShownClaim, moves as asks_moves};
 ghost use Rattle.claim_text.specs.Shown.{claim_shown};
-ghost use Rattle.move_strings.specs.BoundParts.{ShownPart};
-ghost use Rattle.puz_search.specs.Answers.{IsAnswerInTurn, IsDeepened};
+ghost use Rattle.puz_search.specs.Answers.{IsDeepened};
 ghost use Rattle.puz_search.specs.Guides.{ShownGuide};
-ghost use Rattle.pdb_prove.specs.Answers.{IsBoundFor, IsFoundBy, IsOptimumFor, IsPartFor, IsShortestFor, is_found_yes};
-ghost use Rattle.pdb_prove.specs.Posed.{IsPosed};
-ghost use Rattle.pdb_prove.specs.Steps.{IsAskedOf, is_spent};
+ghost use Rattle.pdb_prove.specs.Answers.{IsFoundBy, IsShortestFor, is_found_yes};
+ghost use Rattle.pdb_prove.specs.Steps.{IsPosed, IsQuestionOf, found_below, is_spent};
 
-use crate::posed::Posed;
+use crate::asked::Posed;
 use claim_text::{Asks, Claim};
 use pdb_verdict::Fault;
 use puz_board::{Board, is_solvable, replay};
@@ -55,18 +54,27 @@ impl Finding {
     {
         matches!(self, Finding::Refused(Fault::K1(_)))
     }
+
+    /// Why the claim is refused, if it is.
+    pub(crate) fn refusal(&self) -> Option<Fault> {
+        match self {
+            Finding::Refused(refused) => Some(*refused),
+            _ => None,
+        }
+    }
 }
 
 /// A search that expands no more boards is one thread's work.
 pub(crate) const FEW_BOARDS: u64 = 1 << 16;
 
 /// What is found for a claim by one thread that expands few boards, where these are enough.
-pub(crate) fn answer_soon(guide: &Guide<'_>, posed: Posed<'_>, budget: u64) -> Option<Finding>
+pub(crate) fn answer_soon(guide: &Guide<'_>, posed: Posed<'_>) -> Option<Finding>
     requires { IsPosed guide.now.bundle posed.claim.now posed.start.now }
-    ensures { IfSome result (IsFoundBy guide.now budget (claim_shown posed.entry.claim.now)) }
+    ensures { let shown = claim_shown posed.entry.claim.now in
+        IfSome result (IsFoundBy guide.now posed.entry.budget shown) }
 {
-    if budget <= FEW_BOARDS {
-        return Some(answer_alone(guide, posed, budget));
+    if posed.budget <= FEW_BOARDS {
+        return Some(answer_alone(guide, posed, posed.budget));
     }
     let found = answer_alone(guide, posed, FEW_BOARDS);
     if found.is_spent() { None } else { Some(found) }
@@ -77,27 +85,17 @@ fn answer_alone(guide: &Guide<'_>, posed: Posed<'_>, budget: u64) -> Finding
     requires { IsPosed guide.now.bundle posed.claim.now posed.start.now }
     ensures { IsFoundBy guide.now budget (claim_shown posed.entry.claim.now) result }
 {
-    let start = posed.start;
-    match asked_of(posed.claim) {
+    let Posed { claim, start, .. } = posed;
+    match question_of(claim) {
         Ok(Question::Shortest) => match shortest_alone(guide, start, budget) {
             // So few boards prove no bound that is worth telling.
             Deepened::Spent(_) => Finding::Refused(Fault::K1(None)),
-            deepened => found_shortest(&posed.claim.board, deepened),
+            deepened => found_shortest(&claim.board, deepened),
         },
-        Ok(Question::Moves(count)) => {
-            let bound = PartBound::whole(bound_of(count));
-            found_moves(
-                count,
-                refute_by_thresholds_alone(guide, start, &bound, budget),
-            )
+        Ok(Question::Below(bound, refuted)) => {
+            let answer = refute_by_thresholds_alone(guide, start, &bound, budget);
+            found_below(refuted, answer)
         }
-        Ok(Question::Bound(bound)) => {
-            let bound = PartBound::whole(bound);
-            found_bound(refute_by_thresholds_alone(guide, start, &bound, budget))
-        }
-        Ok(Question::Part(part)) => found_part(refute_by_thresholds_alone(
-            guide, start, &part, budget,
-        )),
         Err(refused) => Finding::Refused(refused),
     }
 }
@@ -112,67 +110,61 @@ pub(crate) fn answer_by<R: Threads + Sync, G: Gate + Sync>(
     requires { IsPosed guide.now.bundle posed.claim.now posed.start.now }
     ensures { IsFoundBy guide.now budget (claim_shown posed.entry.claim.now) result }
 {
-    let start = posed.start;
-    match asked_of(posed.claim) {
+    let Posed { claim, start, .. } = posed;
+    match question_of(claim) {
         Ok(Question::Shortest) => {
-            found_shortest(&posed.claim.board, shortest(guide, start, budget, workers))
+            found_shortest(&claim.board, shortest(guide, start, budget, workers))
         }
-        Ok(Question::Moves(count)) => {
-            let bound = PartBound::whole(bound_of(count));
-            found_moves(
-                count,
-                refute_by_thresholds(guide, start, &bound, budget, workers),
-            )
+        Ok(Question::Below(bound, refuted)) => {
+            let answer = refute_by_thresholds(guide, start, &bound, budget, workers);
+            found_below(refuted, answer)
         }
-        Ok(Question::Bound(bound)) => {
-            let bound = PartBound::whole(bound);
-            found_bound(refute_by_thresholds(guide, start, &bound, budget, workers))
-        }
-        Ok(Question::Part(part)) => found_part(refute_by_thresholds(
-            guide, start, &part, budget, workers,
-        )),
         Err(refused) => Finding::Refused(refused),
     }
 }
 
 /// What is to be searched for.
-#[derive(Clone, Copy)]
+#[derive(Drop)]
 enum Question {
     /// A shortest solution.
     Shortest,
-    /// A solution that is shorter than one of so many moves.
-    Moves(u16),
-    /// A solution of fewer moves than this.
-    Bound(u8),
-    /// One that is of this part.
-    Part(PartBound),
+    /// A solution of fewer moves than a bound, or of a part of it, and what is found where there is none.
+    Below(PartBound, Finding),
 }
 
 /// What is to be searched for, where the claim isn't refused without a search.
-fn asked_of(claim: &Claim<'_>) -> Result<Question, Fault>
-    ensures ok { IfOk result (IsAskedOf (claim_shown claim.now)) }
+fn question_of(claim: &Claim<'_>) -> Result<Question, Fault>
+    ensures ok { IfOk result (IsQuestionOf (claim_shown claim.now)) }
     ensures err { IfErr result (λ refused. (guide : ShownGuide) (budget : ℕ)
         → IsFoundBy guide budget (claim_shown claim.now) (Finding.Refused refused)) }
 {
     match claim.asks {
         Asks::Moves(moves) => match replay(&claim.board, moves) {
-            Ok(count) => Ok(Question::Moves(count)),
+            Ok(count) => Ok(shorter_than(count)),
             Err(refused) => Err(Fault::Moves(refused)),
         },
         Asks::Shortest if is_solvable(&claim.board) => Ok(Question::Shortest),
-        Asks::Bound(bound) if is_solvable(&claim.board) => Ok(Question::Bound(bound)),
-        Asks::Part(bound, part) if is_solvable(&claim.board) => Ok(Question::Part(PartBound::new(
-            bound, part,
-        ))),
+        Asks::Bound(bound) if is_solvable(&claim.board) => {
+            Ok(Question::Below(PartBound::whole(bound), Finding::Bound))
+        }
+        Asks::Part(bound, part) if is_solvable(&claim.board) => Ok(Question::Below(
+            PartBound::new(bound, part),
+            Finding::Part,
+        )),
         Asks::Shortest | Asks::Bound(_) | Asks::Part(..) => Err(Fault::K2),
     }
 }
 
-/// The bound below which a search looks for a solution that is shorter than one of so many moves.
-fn bound_of(count: u16) -> u8
-    ensures { result ≡ min count 255 }
+/// A solution that is shorter than one of so many moves is to be searched for.
+fn shorter_than(count: u16) -> Question
+    ensures { (claim : ShownClaim) (moves : List ℕ) → claim.asks ≡ asks_moves moves
+        → Solves claim.board moves count → IsQuestionOf claim result }
 {
-    count.min(255) as u8
+    if count <= 255 {
+        Question::Below(PartBound::whole(count as u8), Finding::Optimum(count))
+    } else {
+        Question::Below(PartBound::whole(255), Finding::Refused(Fault::K2))
+    }
 }
 
 /// What is found where a shortest solution of a board is asked for and a search answers this.
@@ -191,39 +183,12 @@ fn found_shortest(board: &Board, deepened: Deepened) -> Finding
     }
 }
 
-/// What is found where so many moves solve a board and a search for a shorter solution answers this.
-fn found_moves(count: u16, answer: SearchAnswer) -> Finding
-    ensures { (guide : ShownGuide) (budget : ℕ) (b moves : List ℕ) → Solves b moves count
-        → IsAnswerInTurn guide None b (min count 255) budget answer
-        → IsOptimumFor guide budget b moves result }
+/// What is found where a search for a solution of fewer moves answers this, and this is found where there is none.
+fn found_below(refuted: Finding, answer: SearchAnswer) -> Finding
+    ensures { result ≡ found_below refuted answer }
 {
     match answer {
-        SearchAnswer::Refuted(_) if count <= 255 => Finding::Optimum(count),
-        SearchAnswer::Refuted(_) => Finding::Refused(Fault::K2),
-        SearchAnswer::Solved(letters) => Finding::Shorter(letters),
-        SearchAnswer::Spent => Finding::Refused(Fault::K1(None)),
-    }
-}
-
-/// What is found where a bound is claimed and a search for a solution of fewer moves answers this.
-fn found_bound(answer: SearchAnswer) -> Finding
-    ensures { (guide : ShownGuide) (budget : ℕ) (b : List ℕ) (r : ℕ)
-        → IsAnswerInTurn guide None b r budget answer → IsBoundFor guide budget b r result }
-{
-    match answer {
-        SearchAnswer::Refuted(_) => Finding::Bound,
-        SearchAnswer::Solved(letters) => Finding::Shorter(letters),
-        SearchAnswer::Spent => Finding::Refused(Fault::K1(None)),
-    }
-}
-
-/// What is found where a part of a bound is claimed and the search of the part answers this.
-fn found_part(answer: SearchAnswer) -> Finding
-    ensures { (guide : ShownGuide) (budget : ℕ) (b : List ℕ) (r : ℕ) (p : ShownPart)
-        → IsAnswerInTurn guide (Some p) b r budget answer → IsPartFor guide budget b r p result }
-{
-    match answer {
-        SearchAnswer::Refuted(_) => Finding::Part,
+        SearchAnswer::Refuted(_) => refuted,
         SearchAnswer::Solved(letters) => Finding::Shorter(letters),
         SearchAnswer::Spent => Finding::Refused(Fault::K1(None)),
     }

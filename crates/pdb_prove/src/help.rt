@@ -8,19 +8,18 @@ ghost use Rattle.puz_board.specs.declared.moves.Move.{Move};
 ghost use Rattle.puz_search.specs.Guides.{LeavesOutReturn, LeavesOutReversals};
 ghost use Rattle.puz_search.specs.StoredGuides.{bundle_of};
 ghost use Rattle.pdb_prove.specs.Answers.{IsFoundFor};
-ghost use Rattle.pdb_prove.specs.Posed.{IsPosed};
-ghost use Rattle.pdb_prove.specs.Steps.{IsPreparedFor, IsWantedIf, PrunesFor};
+ghost use Rattle.pdb_prove.specs.Steps.{IsPosed, IsRoomFor, IsWantedIf, PrunesFor};
 
 use crate::answers::{FEW_BOARDS, Finding, answer_by};
-use crate::counts::Counting;
-use crate::posed::Posed;
-use crate::prepared::{Prepared, prepare, wordable};
+use crate::asked::Posed;
+use crate::words::{TableWords, wordable};
 use move_strings::Automaton;
 use puz_board::{Move, Side};
 use puz_search::{Guide, Sets};
 use puz_walk::WordBundle;
 use set_sum::Bundle;
 use std::alloc::Global;
+use std::sync::atomic::{AtomicU64, Ordering};
 use std::thread::Threads;
 use string_make::draft_of;
 use work_run::{Gate, Workers};
@@ -31,13 +30,12 @@ const LONGEST: u8 = 12;
 /// To make the words of a table takes about as long as to search over sums for one board for each so many of its placements.
 const PLACEMENTS_FOR_A_BOARD: u64 = 3;
 
-/// What leads the searches for hard claims over sets. An automaton of strings is made when the first of them wants it, and kept
+/// What helps the searches for hard claims over sets. An automaton of strings is made when the first of them wants it, and kept
 /// for the rest. Words are wanted once the hard claims have been searched for over sums for a third as many boards as the tables
 /// have placements together. Where there is no memory for either, the searches go on without it.
 #[derive(Drop)]
 pub(crate) struct Help<'a> {
     pub(crate) sets: Sets<'a>,
-    pub(crate) reversals: &'a Automaton,
     /// Whether the automaton of strings was wanted already.
     is_made: bool,
     /// The automaton of strings, where it was made and there was memory for it.
@@ -46,21 +44,15 @@ pub(crate) struct Help<'a> {
     /// can't be any.
     before_words: Option<u64>,
     /// The memory for words, once they are wanted, where there is any.
-    pub(crate) prepared: Option<Prepared>,
-    ghost one_side: { PrunesFor (bundle_of sets).side reversals.now },
+    pub(crate) words: Option<TableWords>,
     ghost same_side: { IfSome strings (PrunesFor (bundle_of sets).side) } by { Prim.hlevel props },
 }
 
 impl<'a> Help<'a> {
     /// Help over the tables of a bundle, of which nothing is made yet. Words may be wanted only where this is said.
-    pub(crate) fn over_tables(
-        bundle: &'a Bundle<'a>,
-        reversals: &'a Automaton,
-        may_want_words: bool,
-    ) -> Help<'a>
-        requires { PrunesFor bundle.now.side reversals.now }
+    pub(crate) fn over_tables(bundle: &'a Bundle<'a>, may_want_words: bool) -> Help<'a>
         ensures sets { bundle_of result.sets ≡ bundle.now }
-        ensures unprepared { result.prepared ≡ None }
+        ensures unprepared { result.words ≡ None }
         ensures goes_on { may_want_words ≡ false → result.before_words ≡ None }
     {
         let before_words = if may_want_words {
@@ -70,33 +62,26 @@ impl<'a> Help<'a> {
         };
         Help {
             sets: Sets::Sums(bundle),
-            reversals,
             is_made: false,
             strings: None,
             before_words,
-            prepared: None,
+            words: None,
         }
     }
 
     /// Help over the words of the tables, with the automaton of strings where it was made.
-    pub(crate) fn over_words(
-        words: &'a WordBundle<'a>,
-        reversals: &'a Automaton,
-        strings: Option<Automaton>,
-    ) -> Help<'a>
-        requires reversals { PrunesFor words.now.side reversals.now }
-        requires strings { IfSome strings (PrunesFor words.now.side) }
+    pub(crate) fn over_words(words: &'a WordBundle<'a>, strings: Option<Automaton>) -> Help<'a>
+        requires { IfSome strings (PrunesFor words.now.side) }
         ensures sets { bundle_of result.sets ≡ words.now }
-        ensures unprepared { result.prepared ≡ None }
+        ensures unprepared { result.words ≡ None }
         ensures goes_on { result.before_words ≡ None }
     {
         Help {
             sets: Sets::Words(words),
-            reversals,
             is_made: true,
             strings,
             before_words: None,
-            prepared: None,
+            words: None,
         }
     }
 
@@ -105,28 +90,28 @@ impl<'a> Help<'a> {
     pub(crate) fn search<H: Threads + Sync, G: Gate + Sync>(
         &mut self,
         posed: Posed<'_>,
-        budget: u64,
         workers: &Workers<'_, H, G>,
     ) -> Option<Finding>
         requires posed { IsPosed (bundle_of self.old.sets) posed.claim.now posed.start.now }
-        requires unprepared { self.old.prepared ≡ None }
+        requires prunes { PrunesFor (bundle_of self.old.sets).side posed.reversals.now }
+        requires unprepared { self.old.words ≡ None }
         ensures sets { self.new.sets ≡ self.old.sets }
         ensures found { let shown = claim_shown posed.entry.claim.now in
-            IfSome result (IsFoundFor (bundle_of self.old.sets) budget shown) }
-        ensures wanted { IsWantedIf result (bundle_of self.old.sets) self.new.prepared }
+            IfSome result (IsFoundFor (bundle_of self.old.sets) posed.entry.budget shown) }
+        ensures wanted { IsWantedIf result (bundle_of self.old.sets) self.new.words }
         ensures goes_on { self.old.before_words ≡ None
-            → (self.new.before_words ≡ None) × (self.new.prepared ≡ None) }
+            → (self.new.before_words ≡ None) × (self.new.words ≡ None) }
     {
-        if budget > FEW_BOARDS {
+        if posed.budget > FEW_BOARDS {
             self.make_strings(workers.alloc);
             if let Some(left) = self.before_words {
-                let found = self.search_before_words(left, posed, budget, workers);
-                if found.is_some() || self.prepared.is_some() {
+                let found = self.search_before_words(left, posed, workers);
+                if found.is_some() || self.words.is_some() {
                     return found;
                 }
             }
         }
-        Some(self.answer(posed, budget, workers))
+        Some(self.answer(posed, posed.budget, workers))
     }
 
     /// What is found for a hard claim while no words are wanted. Where they are, the memory for them is taken.
@@ -134,34 +119,38 @@ impl<'a> Help<'a> {
         &mut self,
         left: u64,
         posed: Posed<'_>,
-        budget: u64,
         workers: &Workers<'_, H, G>,
     ) -> Option<Finding>
         requires posed { IsPosed (bundle_of self.old.sets) posed.claim.now posed.start.now }
-        requires unprepared { self.old.prepared ≡ None }
+        requires prunes { PrunesFor (bundle_of self.old.sets).side posed.reversals.now }
+        requires unprepared { self.old.words ≡ None }
         ensures sets { self.new.sets ≡ self.old.sets }
         ensures found { let shown = claim_shown posed.entry.claim.now in
-            IfSome result (IsFoundFor (bundle_of self.old.sets) budget shown) }
-        ensures wanted { IfSome result (λ found. self.new.prepared ≡ None) }
-        ensures prepared { IfSome self.new.prepared (IsPreparedFor (bundle_of self.old.sets)) }
+            IfSome result (IsFoundFor (bundle_of self.old.sets) posed.entry.budget shown) }
+        ensures wanted { IfSome result (λ found. self.new.words ≡ None) }
+        ensures prepared { IfSome self.new.words (IsRoomFor (bundle_of self.old.sets)) }
     {
-        let few = left.min(budget);
-        let counting = Counting::new(workers.gate);
+        let few = left.min(posed.budget);
+        let counting = Counting {
+            gate: workers.gate,
+            expanded: AtomicU64::new(0),
+        };
         let counted = Workers::new(workers.rt, workers.alloc, workers.count, &counting);
         let found = self.answer(posed, few, &counted);
-        if few == budget || !found.is_spent() {
-            self.before_words = Some(left.saturating_sub(counting.boards()));
+        if few == posed.budget || !found.is_spent() {
+            let expanded = counting.expanded.load(Ordering::SeqCst);
+            self.before_words = Some(left.saturating_sub(expanded));
             return Some(found);
         }
         self.before_words = None;
-        self.prepared = prepare(self.sets, workers.alloc).unwrap_or(None);
+        self.words = TableWords::room(self.sets, workers.alloc).unwrap_or(None);
         None
     }
 
     /// Makes the automaton of strings, where it isn't made yet.
     fn make_strings(&mut self, alloc: Global)
         ensures sets { self.new.sets ≡ self.old.sets }
-        ensures prepared { self.new.prepared ≡ self.old.prepared }
+        ensures prepared { self.new.words ≡ self.old.words }
         ensures before_words { self.new.before_words ≡ self.old.before_words }
     {
         if !self.is_made {
@@ -177,15 +166,42 @@ impl<'a> Help<'a> {
         budget: u64,
         workers: &Workers<'_, H, G>,
     ) -> Finding
-        requires { IsPosed (bundle_of self.now.sets) posed.claim.now posed.start.now }
+        requires posed { IsPosed (bundle_of self.now.sets) posed.claim.now posed.start.now }
+        requires prunes { PrunesFor (bundle_of self.now.sets).side posed.reversals.now }
         ensures { let shown = claim_shown posed.entry.claim.now in
             IsFoundFor (bundle_of self.now.sets) budget shown result }
     {
         let automaton = match &self.strings {
             Some(strings) => strings,
-            None => self.reversals,
+            None => posed.reversals,
         };
         answer_by(&Guide::over(self.sets, automaton), posed, budget, workers)
+    }
+}
+
+/// A gate behind which the boards that are expanded are counted.
+#[derive(Drop)]
+struct Counting<'g, G> {
+    gate: &'g G,
+    expanded: AtomicU64,
+}
+
+impl<G: Gate> Gate for Counting<'_, G> {
+    fn begins(&self, jobs: u64) {
+        self.gate.begins(jobs);
+    }
+
+    fn before(&self, job: u64) {
+        self.gate.before(job);
+    }
+
+    fn searches(&self, bound: u8) {
+        self.gate.searches(bound);
+    }
+
+    fn expanded(&self, boards: u64) {
+        self.expanded.fetch_add(boards, Ordering::SeqCst);
+        self.gate.expanded(boards);
     }
 }
 

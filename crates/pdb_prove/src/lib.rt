@@ -2,16 +2,12 @@
 #![tactic(auto)]
 
 mod answers;
+mod asked;
 mod batches;
-mod counts;
 mod help;
-mod inputs;
 pub mod laws;
-mod posed;
-mod prepared;
-mod ready;
 mod runs;
-mod telling;
+mod words;
 
 pub use answers::Finding;
 pub use runs::run_prove;

@@ -1,41 +1,86 @@
 //! A run of `prove`.
 
-ghost use Rattle.std.specs.Prelude.{◌≡◌, IfErr, IfOk, IfSome, MatchOption, MatchResult, None, Ok, Some, false, length, map};
+ghost use Rattle.std.specs.Prelude.{◌≡◌, ◌≤◌, ◌∷◌, IfErr, IfOk, IfSome, MatchOption, MatchResult, None, false, length, map, option_map};
 ghost use Rattle.std.specs.List.{All};
 ghost use Rattle.claim_text.specs.Lines.{HasFewLetters};
 ghost use Rattle.claim_text.specs.Shown.{claim_shown};
 ghost use Rattle.claim_text.specs.Texts.{AreClaims};
-ghost use Rattle.set_sum.specs.Bundles.{ShownBundle};
-ghost use Rattle.puz_walk.specs.WordBundles.{HaveWords};
-ghost use Rattle.byte_io.specs.Shelf.{Bytes};
 ghost use Rattle.pdb_request.specs.Asked.{prove_shown};
 ghost use Rattle.pdb_run.specs.Answers.{all_bytes, answer_text, digest_lines};
 ghost use Rattle.pdb_run.specs.Ended.{HasItsStatus};
-ghost use Rattle.pdb_run.specs.Io.{HasRead, IsWritten};
+ghost use Rattle.pdb_run.specs.Inputs.{wanted_of};
+ghost use Rattle.pdb_run.specs.Io.{HasRead};
 ghost use Rattle.pdb_run.specs.Runs.{World};
 ghost use Rattle.pdb_run.specs.Writing.{digests_of};
-ghost use Rattle.pdb_verdict.specs.FileBundles.{IsBundleOfFiles};
-ghost use Rattle.pdb_prove.specs.Posed.{ArePosed};
-ghost use Rattle.pdb_prove.specs.Prove.{AreReady, ClaimsFiles, ProveEnds, budget_of, digested_files, in_order, prove_inputs};
-ghost use Rattle.pdb_prove.specs.Steps.{AreCut, AreTold, IsCauseForClaims, IsPreparedFor, IsToldTo, IsWantedFor, PrunesFor, files_of};
+ghost use Rattle.pdb_prove.specs.Prove.{AreReady, ClaimsFiles, ProveEnds, a_claims_text, budget_of, digested_files, in_order, prove_inputs, prove_plan};
+ghost use Rattle.pdb_prove.specs.Steps.{AreCut, HasBegun, IsAskedOver, IsCauseForClaims, IsRoomFor, IsSameAsked, IsToldTo, PrunesFor, claims_of, files_of};
 
-use crate::batches::{Asked, OneTold, Telling, tell_claims};
+use crate::asked::{Asked, Ready, of_claims};
+use crate::batches::answer_all;
 use crate::help::Help;
-use crate::inputs::{Proving, with_bytes};
-use crate::prepared::Prepared;
-use crate::ready::{Ready, of_claims, ready_with};
+use crate::words::TableWords;
 use byte_io::streams::WriteFault;
 use claim_text::{Claim, read_claims};
-use edge_words::Words;
 use move_strings::Automaton;
 use pdb_request::Prove;
-use pdb_run::{AnswerLines, Cause, CommandAnswer, Digested, Ended, Io, conclude, read_inputs};
-use pdb_verdict::{Fault, TableFiles, given_up, over_tables, told_or_memory};
-use puz_walk::{Outline, Start, WordBundle};
+use pdb_run::{
+    AnswerLines, Cause, Command, CommandAnswer, Digested, Ended, Input, Io, conclude, read_inputs,
+};
+use pdb_verdict::{Fault, TableFiles, a_text, given_up, over_tables, told_or_memory, with_tables};
+use set_sum::Bundle;
+use std::alloc::{AllocError, Global};
 use std::convert::identity;
 use std::sync::Wait;
 use std::thread::Threads;
 use work_run::{Gate, Workers};
+
+/// The most bytes of a claims text.
+const CLAIMS_LIMIT: u64 = 1 << 26;
+
+/// Claims to be proved, as a command.
+#[derive(Clone, Copy)]
+struct Proving<'c, 'n>(&'c Prove<Option<&'n str>, &'n str>);
+
+impl<'n> Command<'n> for Proving<'_, 'n> {
+    ghost plan = { λ command. prove_plan (prove_shown command.0.now) };
+
+    fn inputs(&self, alloc: Global) -> Result<Vec<Input<'n>>, AllocError> {
+        let prove = self.0;
+        let texts = [a_claims_text(prove.claims), a_text(Some(prove.sets))];
+        with_tables(alloc, &texts, prove.tables.as_slice())
+    }
+}
+
+/// A claims text under this name, or of the reader.
+fn a_claims_text<'a>(name: Option<&'a str>) -> Input<'a>
+    ensures { wanted_of result ≡ a_claims_text (option_map (λ s. s.now) name.entry) }
+{
+    Input {
+        name,
+        limit: CLAIMS_LIMIT,
+    }
+}
+
+/// Claims to be proved with a claims text and the bytes of the other inputs, which were read in their order.
+fn with_bytes<'t>(
+    prove: &Prove<Option<&str>, &str>,
+    text: &'t [u8],
+    inputs: Vec<Vec<u8>>,
+) -> Prove<&'t [u8], Vec<u8>>
+    requires { 1 ≤ length inputs.items }
+    ensures fold { result.fold ≡ prove.now.fold }
+    ensures inputs { text.now ∷ all_bytes inputs.items ≡ in_order (files_of result) }
+{
+    let mut tables = inputs;
+    Prove {
+        claims: text,
+        sets: tables.remove(0),
+        tables,
+        workers: prove.workers,
+        fold: prove.fold,
+        budget: prove.budget,
+    }
+}
 
 /// A whole run of `prove`, whoever checks the tables and searches. Each line is written as soon as it and those before it are
 /// known.
@@ -51,216 +96,99 @@ pub fn run_prove<'n, H: Threads + Wait + Sync, G: Gate + Sync, I: Io>(
         ProveEnds arguments (I.world io.old) (I.world io.new) result.status }
 {
     let command = Proving(prove);
-    let files = match read_inputs(workers.alloc, &command, io) {
-        Ok(inputs) => with_bytes(prove, inputs),
+    let mut inputs = match read_inputs(workers.alloc, &command, io) {
+        Ok(inputs) => inputs,
         Err(ended) => return ended,
     };
-    let tables = files.tables;
-    let text = files.claims.as_slice();
-    let claims = match read_claims(workers.alloc, text) {
-        Ok(claims) => claims,
+    let text = inputs.remove(0);
+    let files = with_bytes(prove, text.as_slice(), inputs);
+    match read_claims(workers.alloc, files.claims) {
+        Ok(claims) => answer_claims(&command, claims, files, workers, io),
         Err(fault) => {
-            let digested = Digested::Files(tables.as_slice(), Some(text));
-            return tell_fault(&command, digested, of_claims(fault), io);
+            let digested = Digested::Files(files.tables.as_slice(), Some(files.claims));
+            tell_fault(&command, digested, of_claims(fault), io)
         }
-    };
-    let read = ClaimsRead {
-        claims,
-        text,
-        sets: files.sets.as_slice(),
-        fold: files.fold,
-    };
-    tell_all(&command, read, tables, workers, io)
-}
-
-/// Claims that were read, their text, the set text, and whether the tables for them are folded.
-#[derive(Drop)]
-struct ClaimsRead<'c> {
-    claims: Vec<Claim<'c>>,
-    text: &'c [u8],
-    sets: &'c [u8],
-    fold: bool,
+    }
 }
 
 /// The rest of a run over claims that were read. Over full tables words may be wanted: once there is memory for them, the bundle is
 /// given up, and then the bytes of each table as its words are made.
 #[inline(never)] // so that the stack hasn't what was needed to read them
-fn tell_all<'n, H: Threads + Wait + Sync, G: Gate + Sync, I: Io>(
+fn answer_claims<'n, H: Threads + Wait + Sync, G: Gate + Sync, I: Io>(
     command: &Proving<'_, 'n>,
-    read: ClaimsRead<'_>,
-    mut tables: Vec<Vec<u8>>,
+    claims: Vec<Claim<'_>>,
+    files: Prove<&[u8], Vec<u8>>,
     workers: &Workers<'_, H, G>,
     io: &mut I,
 ) -> Ended<'n, Fault>
-    requires are { AreClaims read.text.now (map claim_shown read.claims.items) }
-    requires few { All (λ claim. HasFewLetters (claim_shown claim)) read.claims.items }
+    requires are { AreClaims files.claims.now (map claim_shown claims.items) }
+    requires few { All (λ claim. HasFewLetters (claim_shown claim)) claims.items }
     ensures caused { HasItsStatus result }
     ensures same_streams { I.streams io.new ≡ I.streams io.old }
-    ensures ends { let arguments = prove_shown command.now.0.now in
-        let files = files_of read.entry tables.items in (old : World)
-        → HasRead (prove_inputs arguments) old (I.world io.old) (in_order files)
-        → read.entry.fold ≡ arguments.fold
+    ensures ends { let arguments = prove_shown command.now.0.now in (old : World)
+        → HasRead (prove_inputs arguments) old (I.world io.old) (in_order (files_of files.entry))
+        → files.entry.fold ≡ arguments.fold
         → ProveEnds arguments old (I.world io.new) result.status }
 {
-    let fold = read.fold;
+    let Prove {
+        claims: text,
+        sets,
+        mut tables,
+        fold,
+        ..
+    } = files;
     let given = given_up(&mut tables, fold);
     let kept = tables.as_slice();
     let files = TableFiles { given, kept, fold };
-    let (digested, bundle) = over_tables(files, Some(read.text), read.sets, workers, identity);
-    let ready = ready_with(workers.alloc, read.claims, bundle);
-    let ready = match begin(command, digested, ready, io) {
+    let (digested, bundle) = over_tables(files, Some(text), sets.as_slice(), workers, identity);
+    let ready = Ready::of(workers.alloc, claims, budget_of(command.0), bundle);
+    let Ready { mut asked, bundle } = match begin(command, digested, ready, io) {
         Ok(ready) => ready,
         Err(ended) => return ended,
     };
-    let budget = budget_of(command.0);
-    let (telling, wanted) = match tell_over_tables(&ready, !fold, budget, workers, io) {
-        Ok(told) => told,
+    let (words, strings) = match answer_over_tables(&mut asked, &bundle, !fold, workers, io) {
+        Ok(wanted) => wanted,
         Err(_) => return Ended::by(Some(Cause::Unwritten)),
     };
-    let Some(wanted) = wanted else {
-        return Ended::answered(telling.is_yes, telling.last);
+    let Some(words) = words else {
+        return Ended::answered(asked.is_yes, asked.refused);
     };
-    let (claims, starts, reversals) = without_bundle(ready);
-    let worded = wanted.fill(tables, workers);
-    let asked = Asked {
-        claims: &claims.as_slice()[telling.told..],
-        starts: &starts.as_slice()[telling.told..],
-        first: telling.told as u64,
-        budget,
-    };
-    match tell_over_words(asked, worded, &reversals, workers, io) {
-        Ok(rest) => Ended::answered(telling.is_yes & rest.is_yes, rest.refused),
+    drop(bundle);
+    let words = words.fill(tables, workers);
+    let bundle = words.bundle();
+    let mut help = Help::over_words(&bundle, strings);
+    match answer_all(&mut asked, &mut help, workers, io) {
+        Ok(()) => Ended::answered(asked.is_yes, asked.refused),
         Err(_) => Ended::by(Some(Cause::Unwritten)),
     }
 }
 
-/// The claims, their starts and the automaton of reversals. The bundle is given up.
-fn without_bundle<'c>(ready: Ready<'_, 'c>) -> (Vec<Claim<'c>>, Vec<Start>, Automaton)
-    ensures claims { result.0 ≡ ready.entry.claims }
-    ensures starts { result.1 ≡ ready.entry.starts }
-    ensures reversals { result.2 ≡ ready.entry.reversals }
-    ensures posed { ArePosed ready.entry.bundle ready.entry.claims.items ready.entry.starts.items }
-    ensures prunes { PrunesFor ready.entry.bundle.side ready.entry.reversals }
-{
-    (ready.claims, ready.starts, ready.reversals)
-}
-
-/// The memory for words that are wanted, and the automaton of strings where it was made.
-#[derive(Drop)]
-struct Wanted {
-    prepared: Prepared,
-    strings: Option<Automaton>,
-}
-
-/// The words of the tables of a bundle, with what a search over them needs besides.
-#[derive(Drop)]
-struct Worded {
-    outline: Box<Outline>,
-    words: Vec<Words>,
-    strings: Option<Automaton>,
-}
-
-impl Wanted {
-    /// The words of the tables of these files.
-    fn fill<R: Threads + Sync, G>(self, files: Vec<Vec<u8>>, workers: &Workers<'_, R, G>) -> Worded
-        requires { (sets : Bytes) × (v : ShownBundle)
-            × IsBundleOfFiles false (all_bytes files.items) sets v × IsPreparedFor v self.prepared }
-        ensures outline { result.outline.value ≡ self.prepared.outline.value }
-        ensures words { (sets : Bytes) (v : ShownBundle)
-            → IsBundleOfFiles false (all_bytes files.items) sets v
-            → IsPreparedFor v self.prepared → HaveWords v result.words.items }
-        ensures strings { result.strings ≡ self.strings }
-    {
-        let Wanted { prepared, strings } = self;
-        let (outline, words) = prepared.fill(files, workers);
-        Worded {
-            outline,
-            words,
-            strings,
-        }
-    }
-}
-
-/// Tells the claims in their order over the tables of a bundle, until words are wanted and there is memory for them. They may be
-/// wanted only where this is said.
-fn tell_over_tables<H: Threads + Sync, G: Gate + Sync, I: Io>(
-    ready: &Ready<'_, '_>,
+/// Answers claims over the tables of a bundle, until words are wanted. They may be wanted only where this is said. The memory for
+/// words that are wanted, and the automaton of strings where it was made.
+fn answer_over_tables<H: Threads + Sync, G: Gate + Sync, I: Io>(
+    asked: &mut Asked<'_>,
+    bundle: &Bundle<'_>,
     may_want_words: bool,
-    budget: u64,
     workers: &Workers<'_, H, G>,
     io: &mut I,
-) -> Result<(Telling, Option<Wanted>), WriteFault>
-    requires few { All (λ claim. HasFewLetters (claim_shown claim)) ready.now.claims.items }
-    ensures wanted { IfOk result (λ told. MatchOption told.1
-        (told.0.told ≡ length ready.now.claims.items) (IsWantedFor ready.now.bundle)) }
-    ensures goes_on { may_want_words ≡ false → IfOk result (λ told. told.1 ≡ None) }
+) -> Result<(Option<TableWords>, Option<Automaton>), WriteFault>
+    requires few { All HasFewLetters (claims_of asked.old) }
+    requires over { IsAskedOver bundle.now asked.old }
+    ensures same { IsSameAsked asked.old asked.new }
+    ensures goes_on { may_want_words ≡ false → IfOk result (λ wanted. wanted.0 ≡ None) }
+    ensures wanted { let all = length asked.old.claims.items in
+        IfOk result (λ wanted. MatchOption wanted.0 (all ≤ asked.new.told) (IsRoomFor bundle.now)) }
+    ensures strings { IfOk result (λ wanted. IfSome wanted.1 (PrunesFor bundle.now.side)) }
     ensures same_streams { I.streams io.new ≡ I.streams io.old }
-    ensures told { let shown = map claim_shown ready.now.claims.items in
-        MatchResult result
-        (λ told. IsToldTo ready.now.bundle budget shown (I.world io.old) (I.world io.new) told.0)
-        (λ _. AreCut ready.now.bundle budget (I.world io.old) (I.world io.new) shown) }
+    ensures told { (begun : World) → IsToldTo bundle.now begun (I.world io.old) asked.old
+        → MatchResult result
+        (λ _. IsToldTo bundle.now begun (I.world io.new) asked.new)
+        (λ _. AreCut bundle.now asked.new.budget begun (I.world io.new) (claims_of asked.new)) }
 {
-    let asked = Asked {
-        claims: ready.claims.as_slice(),
-        starts: ready.starts.as_slice(),
-        first: 0,
-        budget,
-    };
-    let mut help = Help::over_tables(&ready.bundle, &ready.reversals, may_want_words);
-    match tell_claims(asked, &mut help, workers, io) {
-        Ok(telling) => Ok((telling, wanted_by(help))),
-        Err(fault) => Err(fault),
-    }
-}
-
-/// What help has prepared, if anything, with its automaton of strings.
-fn wanted_by(help: Help<'_>) -> Option<Wanted>
-    ensures { let help = help.entry in MatchOption result (help.prepared ≡ None)
-        (λ wanted. (help.prepared ≡ Some wanted.prepared) × (wanted.strings ≡ help.strings)) }
-{
-    let Help {
-        prepared,
-        strings,
-        ..
-    } = help;
-    let prepared = prepared?;
-    Some(Wanted { prepared, strings })
-}
-
-/// Tells all claims in their order over words.
-fn tell_over_words<H: Threads + Sync, G: Gate + Sync, I: Io>(
-    asked: Asked<'_>,
-    worded: Worded,
-    reversals: &Automaton,
-    workers: &Workers<'_, H, G>,
-    io: &mut I,
-) -> Result<OneTold, WriteFault>
-    requires few { All (λ claim. HasFewLetters (claim_shown claim)) asked.claims.now }
-    requires posed { ArePosed worded.outline.value asked.claims.now asked.starts.now }
-    requires words { HaveWords worded.outline.value worded.words.items }
-    requires reversals { PrunesFor worded.outline.value.side reversals.now }
-    requires strings { IfSome worded.strings (PrunesFor worded.outline.value.side) }
-    ensures same_streams { I.streams io.new ≡ I.streams io.old }
-    ensures told { let shown = map claim_shown asked.entry.claims.now in
-        AreTold worded.outline.value asked.entry.budget shown
-        (I.world io.old) (I.world io.new) result }
-{
-    let Worded {
-        outline,
-        words,
-        strings,
-    } = worded;
-    let Some(bundle) = WordBundle::of(outline.as_ref(), words.as_slice()) else {
-        unreachable!();
-    };
-    let mut help = Help::over_words(&bundle, reversals, strings);
-    match tell_claims(asked, &mut help, workers, io) {
-        Ok(telling) => Ok(OneTold {
-            is_yes: telling.is_yes,
-            refused: telling.last,
-        }),
-        Err(fault) => Err(fault),
-    }
+    let mut help = Help::over_tables(bundle, may_want_words);
+    answer_all(asked, &mut help, workers, io)?;
+    let Help { words, strings, .. } = help;
+    Ok((words, strings))
 }
 
 /// Tells the digests where all is ready, and else why nothing is searched.
@@ -273,16 +201,17 @@ fn begin<'n, 'b, 'c, I: Io>(
     ensures caused { IfErr result HasItsStatus }
     ensures same_streams { I.streams io.new ≡ I.streams io.old }
     ensures ready { IfOk result (λ begun. ready.entry ≡ Ok begun) }
-    ensures begun { IfOk result (λ begun. IsWritten (digest_lines digested.entry)
-        (I.world io.old) (I.world io.new) (Ok tt)) }
-    ensures ended { IfErr result (λ ended. let arguments = prove_shown command.now.0.now in
+    ensures begins { let arguments = prove_shown command.now.0.now in
         (files : ClaimsFiles) (old : World)
         → HasRead (prove_inputs arguments) old (I.world io.old) (in_order files)
         → digest_lines digested.entry ≡ digests_of (digested_files files)
-        → IfOk ready.entry (λ begun.
-        AreReady arguments.fold files (map claim_shown begun.claims.items) begun.bundle)
-        → IfErr ready.entry (IsCauseForClaims arguments.fold files)
-        → ProveEnds arguments old (I.world io.new) ended.status) }
+        → MatchResult ready.entry
+        (λ ready. AreReady arguments.fold files (claims_of ready.asked) ready.bundle)
+        (IsCauseForClaims arguments.fold files)
+        → MatchResult result
+        (λ ready.
+        HasBegun arguments files old (I.world io.new) (claims_of ready.asked) ready.bundle)
+        (λ ended. ProveEnds arguments old (I.world io.new) ended.status) }
 {
     let ready = match ready {
         Ok(ready) => ready,

@@ -1,0 +1,217 @@
+//! Claims that are asked, from their text to the line of the last answer.
+
+ghost use Rattle.std.specs.Prelude.{◌≡◌, ◌+◌, ◌<◌, ◌≤◌, Bool, length, map, slice_index_or, IfNone, IfOk, IfSome, MatchResult};
+ghost use Rattle.std.specs.List.{All, AllByRecursion};
+ghost use Rattle.puz_board.specs.Boards.{side_of};
+ghost use Rattle.set_sum.specs.Bundles.{ShownBundle};
+ghost use Rattle.claim_text.specs.Lines.{HasFewLetters, told_line};
+ghost use Rattle.claim_text.specs.Shown.{asks_shown, claim_shown};
+ghost use Rattle.claim_text.specs.Texts.{AreClaims};
+ghost use Rattle.claim_text.specs.declared.claims.Claim.{Claim};
+ghost use Rattle.pdb_run.specs.Runs.{World};
+ghost use Rattle.pdb_verdict.specs.FileBundles.{IsReadBundle};
+ghost use Rattle.pdb_prove.specs.Answers.{told_of, words_of};
+ghost use Rattle.pdb_prove.specs.Prove.{AreReady, ClaimsFiles, IsFirstOfAnotherSide};
+ghost use Rattle.pdb_prove.specs.Steps.{IsAskedOver, IsCauseForClaims, IsFoundAt, IsPosed, IsSameAsked, IsTelling, IsToldTo, PrunesFor, claims_of, of_claims};
+
+use crate::answers::Finding;
+use byte_io::streams::WriteFault;
+use claim_text::{
+    Asks, Claim, ClaimsFault, Line, MOST_CLAIMS, bound_line, optimal_line, part_line, refused_line,
+    shorter_line,
+};
+use move_strings::Automaton;
+use pdb_run::{AnswerLines, Io};
+use pdb_verdict::{Fault, line_of};
+use puz_walk::Start;
+use set_sum::Bundle;
+use std::alloc::{AllocError, Global};
+
+/// A claim that is asked: the start of a search from its board, the automaton of reversals of the board's side, and how many boards
+/// may be expanded.
+#[derive(Clone, Copy)]
+pub(crate) struct Posed<'a> {
+    pub(crate) claim: &'a Claim<'a>,
+    pub(crate) start: &'a Start,
+    pub(crate) reversals: &'a Automaton,
+    pub(crate) budget: u64,
+}
+
+/// Claims that are asked, and how far they are answered.
+#[derive(Drop)]
+pub(crate) struct Asked<'c> {
+    pub(crate) claims: Vec<Claim<'c>>,
+    /// The start for each claim.
+    starts: Vec<Start>,
+    reversals: Automaton,
+    /// How many boards may be expanded for each.
+    budget: u64,
+    /// The first claims, so many, are told.
+    pub(crate) told: usize,
+    /// Whether each of them is answered with a yes.
+    pub(crate) is_yes: bool,
+    /// Why the last of them is refused, if there is one and it is.
+    pub(crate) refused: Option<Fault>,
+}
+
+impl<'c> Asked<'c> {
+    /// These claims over the tables of a bundle, none of which is told yet.
+    fn over(
+        alloc: Global,
+        claims: Vec<Claim<'c>>,
+        budget: u64,
+        bundle: &Bundle<'_>,
+    ) -> Result<Asked<'c>, AllocError>
+        requires { All (λ claim. side_of claim.board ≡ bundle.now.side) claims.items }
+        ensures over { IfOk result (IsAskedOver bundle.now) }
+        ensures claims { IfOk result (λ asked. asked.claims.items ≡ claims.entry.items) }
+        ensures budget { IfOk result (λ asked. asked.budget ≡ budget) }
+        ensures none { IfOk result (λ asked. (v : ShownBundle) (w : World) → IsToldTo v w w asked) }
+    {
+        let reversals = Automaton::of_reversals(alloc, bundle.side())?;
+        let mut starts = Vec::new(alloc);
+        for claim in claims.as_slice() {
+            starts.push(Start::of(bundle, &claim.board))?;
+        }
+        Ok(Asked {
+            claims,
+            starts,
+            reversals,
+            budget,
+            told: 0,
+            is_yes: true,
+            refused: None,
+        })
+    }
+
+    /// The claim with this number.
+    pub(crate) fn posed(&self, number: usize) -> Posed<'_>
+        requires number { number < length self.now.claims.items }
+        requires starts { length self.now.starts.items ≡ length self.now.claims.items }
+        ensures over { (v : ShownBundle) → IsAskedOver v self.now
+            → IsPosed v result.claim.now result.start.now × PrunesFor v.side result.reversals.now }
+        ensures claim { (other : Claim)
+            → result.claim.now ≡ slice_index_or self.now.claims.items number other }
+        ensures budget { result.budget ≡ self.now.budget }
+    {
+        Posed {
+            claim: &self.claims[number],
+            start: &self.starts[number],
+            reversals: &self.reversals,
+            budget: self.budget,
+        }
+    }
+
+    /// Tells what is found for the next claim.
+    pub(crate) fn tell<I: Io>(&mut self, found: &Finding, io: &mut I) -> Result<(), WriteFault>
+        requires next { self.old.told < length self.old.claims.items }
+        requires few { All HasFewLetters (claims_of self.old) }
+        ensures same { IsSameAsked self.old self.new }
+        ensures next { IfOk result (λ _. self.new.told ≡ self.old.told + 1) }
+        ensures same_streams { I.streams io.new ≡ I.streams io.old }
+        ensures told { let claims = self.old.claims.items in (v : ShownBundle) (begun : World)
+            → IsFoundAt v self.old.budget claims self.old.told found.now
+            → IsToldTo v begun (I.world io.old) self.old
+            → IsTelling v begun (I.world io.new) self.new result }
+    {
+        let claim = &self.claims[self.told];
+        io.write_text(line_on(claim, found).as_str())?;
+        self.told += 1;
+        self.is_yes &= found.is_yes();
+        self.refused = found.refusal();
+        Ok(())
+    }
+}
+
+/// The line that answers a claim for which this is found.
+fn line_on(claim: &Claim<'_>, found: &Finding) -> Line
+    requires few { HasFewLetters (claim_shown claim.now) }
+    ensures { let claim = claim.now in
+        result.bytes ≡ told_line (told_of claim.board (asks_shown claim.asks) found.now) }
+{
+    match (&claim.asks, found) {
+        (Asks::Bound(bound), Finding::Bound) => bound_line(*bound, &claim.board),
+        (Asks::Part(bound, part), Finding::Part) => part_line(*part, *bound, &claim.board),
+        (Asks::Moves(moves), Finding::Optimum(count)) => optimal_line(*count, &claim.board, *moves),
+        (_, Finding::Shortest(count, letters)) => {
+            optimal_line(*count, &claim.board, letters.as_slice())
+        }
+        (_, Finding::Shorter(letters)) => shorter_line(letters.as_slice(), claim),
+        (_, Finding::Refused(refused)) => refused_line(words_of(*refused).as_str(), claim),
+        _ => refused_line("", claim),
+    }
+}
+
+/// The words of a refusal: its line without the line's end.
+fn words_of(refused: Fault) -> AnswerLines
+    ensures { result.bytes ≡ words_of refused }
+{
+    let mut line = line_of(&Err(refused));
+    line.truncate(line.len() - 1);
+    line
+}
+
+/// Claims that are asked, and a bundle of the side of their boards: all that is to be known before anything is searched.
+#[derive(Drop)]
+pub(crate) struct Ready<'b, 'c> {
+    pub(crate) asked: Asked<'c>,
+    pub(crate) bundle: Bundle<'b>,
+    ghost over: { IsAskedOver bundle asked },
+}
+
+impl<'b, 'c> Ready<'b, 'c> {
+    /// These claims and a bundle, where there is one, and of the side of their boards.
+    pub(crate) fn of(
+        alloc: Global,
+        claims: Vec<Claim<'c>>,
+        budget: u64,
+        bundle: Result<Bundle<'b>, Fault>,
+    ) -> Result<Ready<'b, 'c>, Fault>
+        requires { length claims.items ≤ MOST_CLAIMS }
+        ensures ready { (fold : Bool) (files : ClaimsFiles)
+            → AreClaims files.claims (map claim_shown claims.entry.items)
+            → IsReadBundle fold files.tables files.sets bundle.entry
+            → MatchResult result
+            (λ ready. AreReady fold files (claims_of ready.asked) ready.bundle)
+            (IsCauseForClaims fold files) }
+        ensures claims { IfOk result (λ ready. ready.asked.claims.items ≡ claims.entry.items) }
+        ensures budget { IfOk result (λ ready. ready.asked.budget ≡ budget) }
+        ensures none { IfOk result (λ ready.
+            (v : ShownBundle) (w : World) → IsToldTo v w w ready.asked) }
+    {
+        let bundle = bundle?;
+        match first_of_another_side(claims.as_slice(), &bundle) {
+            None => {
+                let asked = Asked::over(alloc, claims, budget, &bundle)?;
+                Ok(Ready { asked, bundle })
+            }
+            Some(number) => Err(Fault::Q2(number)),
+        }
+    }
+}
+
+/// The number of the first claim whose board has another side than a bundle.
+fn first_of_another_side(claims: &[Claim<'_>], bundle: &Bundle<'_>) -> Option<u32>
+    requires { length claims.now ≤ MOST_CLAIMS }
+    ensures none { let shown = map claim_shown claims.now in
+        IfNone result (AllByRecursion (λ claim. side_of claim.board ≡ bundle.now.side) shown) }
+    ensures some { let shown = map claim_shown claims.now in
+        IfSome result (IsFirstOfAnotherSide bundle.now.side shown) }
+{
+    for (number, claim) in claims.iter().enumerate() {
+        if claim.board.side() != bundle.side() {
+            return Some(number as u32);
+        }
+    }
+    None
+}
+
+/// Why nothing is searched, where a text gives no claims.
+pub(crate) fn of_claims(fault: ClaimsFault) -> Fault
+    ensures { result ≡ of_claims fault }
+{
+    match fault {
+        ClaimsFault::Q1 { line } => Fault::Q1(line),
+        ClaimsFault::Memory => Fault::Memory,
+    }
+}
