@@ -17,6 +17,8 @@ unset GLOBIGNORE TMOUT POSIXLY_CORRECT
 
 kept=$root/out
 program=$kept/pdb_cli
+# The crate at the top of what is made.
+top=pdb_cli
 
 # Writes a message, and has the status 1.
 say() { printf 'pdb_cli: %s\n' "$1" >&2; return 1; }
@@ -29,17 +31,17 @@ find_kit() {
     kit=$(type -P rt) && { [[ $kit == /* && ! -L $kit ]] || kit=$(readlink -f -- "$kit"); } && kit=${kit%/*/*} && [ -f "$kit/KIT-ID" ]
 }
 
-# Sets `crates` to those of the program, and `uses` to what each of all crates uses, as crates.txt has it in the folder at hand.
+# Sets `crates` to `top` and those below it, and `uses` to what each of all crates uses, as crates.txt has it in the folder at hand.
 read_crates() {
     local line at use
     declare -gA uses=()
     while IFS= read -r line || [ -n "$line" ]; do
         line=${line%%#*}
         [[ $line == *[!\ ]* ]] || continue
-        [[ $line =~ ^([a-z0-9_]+)\ *:([a-z0-9_,\ ]*)$ ]] || say "crates.txt: a line has more than libraries: $line" || return
-        uses[${BASH_REMATCH[1]}]=${BASH_REMATCH[2]//,/ }
-    done <crates.txt && [ -n "${uses[pdb_cli]+listed}" ] || say 'crates.txt has no line of pdb_cli' || return
-    crates=(pdb_cli)
+        [[ $line =~ ^([a-z0-9_]+)(\ +staticlib)?\ *:([a-z0-9_,\ ]*)$ ]] || say "crates.txt: a line has more than libraries: $line" || return
+        uses[${BASH_REMATCH[1]}]=${BASH_REMATCH[3]//,/ }
+    done <crates.txt && [ -n "${uses[$top]+listed}" ] || say "crates.txt has no line of $top" || return
+    crates=("$top")
     for ((at = 0; at < ${#crates[@]}; at++)); do
         for use in ${uses[${crates[at]}]}; do
             [[ -z ${uses[$use]+listed} || " ${crates[*]} " == *" $use "* ]] || crates+=("$use")

@@ -5,8 +5,8 @@ sentences that say why an answer is no yes, in docs/FORMATS.md, with those of th
     tools/checks/check_examples.py
 
 An example is a block that begins with ```rust. Spaces at the beginning of a line don't count. Each crate but those of
-tests, `pdb_cli`, `word_laws` and `claim_laws`, which nobody calls, and `puz_walk`, which tests call through `puz_search`, has
-one. The last line is `N passed, M failed`, and the status is 0 if none failed.
+tests, `pdb_cli`, `pdb_checker`, which C calls, `word_laws` and `claim_laws`, which nobody calls, and `puz_walk`, which tests call
+through `puz_search`, has one. The last line is `N passed, M failed`, and the status is 0 if none failed.
 """
 
 import pathlib
@@ -14,7 +14,7 @@ import re
 import sys
 
 ROOT = pathlib.Path(__file__).resolve().parents[2]
-WITHOUT_EXAMPLE = {"pdb_cli", "word_laws", "claim_laws", "puz_walk"}
+WITHOUT_EXAMPLE = {"pdb_cli", "pdb_checker", "word_laws", "claim_laws", "puz_walk"}
 SAMPLES = {"test_samples"}
 
 

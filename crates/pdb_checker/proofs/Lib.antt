@@ -1,0 +1,4 @@
+mod AnswerLemmas
+mod BundleLemmas
+mod ClaimLemmas
+mod TableLemmas

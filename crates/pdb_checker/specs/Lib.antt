@@ -1,0 +1,5 @@
+-- What public contracts say.
+pub mod Answers
+pub mod Claims
+-- What searches come to.
+pub mod Searches
