@@ -69,7 +69,7 @@ pub(crate) fn fill_by<R: Threads + Sync>(
 }
 
 /// Fills in the words of a span, run by run.
-fn fill(lookup: &Lookup<'_>, span: &Span, words: &mut [u32])
+pub(crate) fn fill(lookup: &Lookup<'_>, span: &Span, words: &mut [u32])
     requires { IsFillable lookup.now span.now words.old }
     ensures { AreAllTold lookup.now span.now words.new }
 {

@@ -3,7 +3,7 @@
 ghost use Rattle.std.specs.Prelude.{◌≡◌, ◌<◌, IfNone, IfOk, IfSome};
 ghost use Rattle.edge_words.specs.Indexes.{index_count, most_words};
 
-use crate::fills::{Span, fill_by};
+use crate::fills::{Span, fill, fill_by};
 use crate::indexes::index_count;
 use crate::lookups::Lookup;
 use crate::words::Words;
@@ -82,6 +82,27 @@ impl WordRoom {
         let lookup = Lookup::new(table, rows);
         let threads = workers.count;
         fill_by(workers.rt, &lookup, threads, span, words.as_mut_slice());
+        Words { pattern, words }
+    }
+
+    /// The same by the caller's thread alone.
+    pub fn fill_alone(self, table: &CheckedTable<'_>) -> Words
+        requires { self ≡ table.now.pattern }
+        ensures { result.pattern ≡ table.now.pattern }
+    {
+        let WordRoom {
+            pattern,
+            mut words,
+            rows,
+        } = self;
+        let count = words.capacity();
+        words.resize(count, 0).unwrap();
+        let span = Span {
+            low: 0,
+            high: count / usize::from(pattern.side().cells()),
+        };
+        let lookup = Lookup::new(table, rows);
+        fill(&lookup, &span, words.as_mut_slice());
         Words { pattern, words }
     }
 }
