@@ -2,3 +2,4 @@ mod AnswerLemmas
 mod BundleLemmas
 mod ClaimLemmas
 mod TableLemmas
+mod WordLemmas

@@ -10,7 +10,7 @@ use Rattle.pdb_checker.specs.declared.searches.Question.TheVariants.{Below, Shor
 
 -- this is found of the board b where this is searched for
 abbrev pub IsFoundFor : List ℕ → Question → Found → Type 0
-IsFoundFor b (Below r) Refuted = IsBounded b r
+IsFoundFor b (Below r) (Refuted boards) = IsBounded b r
 IsFoundFor b (Below r) (Solved letters) = IsShorter b r letters.items
 IsFoundFor b Shortest (Solved letters) = (moves : ℕ) × Solves b letters.items moves × IsBounded b moves
 IsFoundFor b Shortest Beyond = IsBounded b 254

@@ -175,7 +175,7 @@ fn refuted(found: &Found) -> Result<(), Answer>
         → IsFoundFor b (Below r) found.now → IsShorter b r (moves_in answer)) }
 {
     match found {
-        Found::Refuted => Ok(()),
+        Found::Refuted(_) => Ok(()),
         Found::Solved(letters) => Err(Answer::shorter(letters.as_slice())),
         Found::Spent => Err(Answer::refused(Fault::K1(None))),
         Found::Beyond => Err(Answer::refused(Fault::K2)),
@@ -212,6 +212,6 @@ fn told_shortest(board: &Board, found: &Found) -> Answer
             _ => Answer::refused(Fault::K2),
         },
         Found::Spent => Answer::refused(Fault::K1(None)),
-        Found::Refuted | Found::Beyond => Answer::refused(Fault::K2),
+        Found::Refuted(_) | Found::Beyond => Answer::refused(Fault::K2),
     }
 }

@@ -24,6 +24,7 @@ mod claims;
 mod helps;
 mod searches;
 mod tables;
+mod words;
 
 use crate::answers::{MISUSED, YES};
 use crate::bundles::answer_sets;

@@ -24,8 +24,8 @@ pub(crate) enum Question {
 /// What a search comes to.
 #[derive(Drop)]
 pub(crate) enum Found {
-    /// No solution has fewer moves than the bound.
-    Refuted,
+    /// No solution has fewer moves than the bound, and the last search expanded so many boards.
+    Refuted(u64),
     /// The letters of a solution that was searched for.
     Solved(Letters),
     /// The budget of boards ended the search.
@@ -38,6 +38,14 @@ impl Found {
     /// Whether the budget ended the search.
     pub(crate) fn is_spent(&self) -> bool {
         matches!(self, Found::Spent)
+    }
+
+    /// How many boards were expanded, as far as that is told.
+    pub(crate) fn boards(&self) -> u64 {
+        match self {
+            Found::Refuted(boards) => *boards,
+            _ => 0,
+        }
     }
 }
 
@@ -62,7 +70,7 @@ fn found_below(answer: SearchAnswer) -> Found
         → IsFoundFor b (Below r) result }
 {
     match answer {
-        SearchAnswer::Refuted(_) => Found::Refuted,
+        SearchAnswer::Refuted(boards) => Found::Refuted(boards),
         SearchAnswer::Solved(letters) => Found::Solved(letters),
         SearchAnswer::Spent => Found::Spent,
     }
