@@ -8,7 +8,7 @@ FOLDER has libpdb_checker.a, libpdb_checker.so and pdb.h; PROGRAM is the program
 - library/example.c, compiled by `cc` as C and as C++ with every warning an error, over the archive and over the shared object; and
   with AddressSanitizer and its check for leaks, as are hard claims, by answer_claims.c;
 - the module library/pdb_checker.py in a virtual environment that has nothing else;
-- N claims (600 if not given) of boards of sides 2, 3 and 4, true and false, each alone and all at once: each must be answered by the
+- N claims (10,000 if not given) of boards of sides 2, 3 and 4, true and false, each alone and all at once: each must be answered by the
   line that `prove` writes; with a great budget and with small ones;
 - tables with a wrong byte or a wrong length: the lines must be those of `table`; and the sentences of the module are those of FORMATS.
 
@@ -280,7 +280,7 @@ def plain(fault):
 
 def main():
     parser = argparse.ArgumentParser()
-    parser.add_argument("--claims", type=int, default=600)
+    parser.add_argument("--claims", type=int, default=10_000)
     parser.add_argument("folder", type=pathlib.Path)
     parser.add_argument("program", type=pathlib.Path, nargs="?", default=ROOT / "pdb_cli")
     asked = parser.parse_args()
