@@ -7,13 +7,14 @@ ghost use Rattle.claim_text.specs.Claims as claims;
 ghost use Rattle.claim_text.specs.Claims.{ShownClaim};
 ghost use Rattle.claim_text.specs.Lines.{joined_line, shorter, told_line};
 ghost use Rattle.claim_text.specs.Parts.{AreParts};
+ghost use Rattle.pdb_request.specs.Asked.{file_names};
 ghost use Rattle.pdb_run.specs.Answers.{all_bytes};
 ghost use Rattle.pdb_run.specs.Writing.{digests_of};
 ghost use Rattle.pdb_parts.specs.Joining.{open_claim, whole_lines};
 ghost use Rattle.pdb_parts.specs.Steps.{MarksLines};
 ghost use Rattle.pdb_parts.specs.Stored.{IsJoined, shown};
 
-use crate::beside::{BesideText, counts_text};
+use crate::beside::{AnswerFiles, counts_text};
 use crate::marks::{BoundInParts, Marks, Told, mark_all};
 use claim_text::{Asks, Claim, Line, claim_line, joined_line, shorter_line};
 use move_strings::BoundPart;
@@ -26,45 +27,52 @@ use std::alloc::{AllocError, Global};
 pub struct Joined {
     pub text: String,
     pub is_yes: bool,
-    pub beside: BesideText,
+    pub beside: String,
 }
 
-/// What is said of a bound in parts where these texts of answer lines were read: that it is false, where a whole line shows moves
+/// What is said of a bound in parts where these files of answer lines were read: that it is false, where a whole line shows moves
 /// for that; that it holds, where of each part one says so; or else the claims of the parts that are open.
-pub fn join(alloc: Global, texts: &[Vec<u8>], asked: &BoundInParts) -> Result<Joined, AllocError>
+pub fn join(
+    alloc: Global,
+    files: AnswerFiles<'_>,
+    asked: &BoundInParts,
+) -> Result<Joined, AllocError>
     requires { AreParts asked.now.count }
-    ensures { IfOk result (λ joined. IsJoined joined (all_bytes texts.now) (shown asked.now)) }
+    ensures { let names = file_names files.names.now in
+        IfOk result (λ joined. IsJoined joined names (all_bytes files.texts.now) (shown asked.now)) }
 {
-    let told = mark_all(alloc, texts, asked)?;
+    let told = mark_all(alloc, files.texts, asked)?;
     match told {
         Told::Against(moves) => {
             let text = false_text(alloc, moves, &asked.board, asked.bound)?;
             Ok(Joined {
                 text,
                 is_yes: false,
-                beside: BesideText::new(),
+                beside: String::new(alloc),
             })
         }
-        Told::Marked(marks) => join_marked(alloc, texts, &marks, asked),
+        Told::Marked(marks) => join_marked(alloc, files, &marks, asked),
     }
 }
 
 /// What is said where these are the marks of the lines.
 fn join_marked(
     alloc: Global,
-    texts: &[Vec<u8>],
+    files: AnswerFiles<'_>,
     marks: &Marks,
     asked: &BoundInParts,
 ) -> Result<Joined, AllocError>
     requires parts { AreParts asked.now.count }
-    requires marks { MarksLines (shown asked.now) (flat_map whole_lines (all_bytes texts.now)) marks.now }
-    ensures { IfOk result (λ joined. IsJoined joined (all_bytes texts.now) (shown asked.now)) }
+    requires marks { let lines = flat_map whole_lines (all_bytes files.texts.now) in
+        MarksLines (shown asked.now) lines marks.now }
+    ensures { let names = file_names files.names.now in
+        IfOk result (λ joined. IsJoined joined names (all_bytes files.texts.now) (shown asked.now)) }
 {
     let holds = marks.holds.as_slice();
     let spent = count_spent(holds, marks.spent.as_slice());
-    let beside = counts_text(marks.counts, spent, asked.count);
+    let beside = counts_text(alloc, files, marks.counts, spent, asked)?;
     if are_marked(holds) {
-        let text = bound_text(alloc, texts, asked)?;
+        let text = bound_text(alloc, files.texts, asked)?;
         return Ok(Joined {
             text,
             is_yes: true,

@@ -3,7 +3,7 @@
 use crate::same::{holds_for, same, same_for};
 use claim_text::{Asks, part_line, read_claims};
 use move_strings::BoundPart;
-use pdb_parts::{BoundInParts, Joined, join};
+use pdb_parts::{AnswerFiles, BoundInParts, Joined, join};
 use puz_board::Board;
 use std::alloc::{AllocError, AllocGlobal, Global};
 use std::process::Abort;
@@ -14,7 +14,7 @@ fn board(rt: &impl Abort) -> Board {
     Board::from_cells(&[3, 2, 1, 0]).expect(rt, "a board")
 }
 
-/// What is said of the bound 6 of that board in so many parts, where these texts were read.
+/// What is said of the bound 6 of that board in so many parts, where these texts were read, of files `a`, `b` and `c`.
 fn joined<R: AllocGlobal + Abort>(rt: &R, count: u16, texts: &[Vec<u8>]) -> Joined {
     assert!(rt; count % 2 == 1);
     let asked = BoundInParts {
@@ -22,7 +22,11 @@ fn joined<R: AllocGlobal + Abort>(rt: &R, count: u16, texts: &[Vec<u8>]) -> Join
         bound: 6,
         count,
     };
-    join(rt.alloc(), texts, &asked).ok().expect(rt, "memory")
+    let files = AnswerFiles {
+        names: &["a", "b", "c"],
+        texts,
+    };
+    join(rt.alloc(), files, &asked).ok().expect(rt, "memory")
 }
 
 /// These texts, as vectors.
@@ -54,6 +58,8 @@ fn expect_case<R: AllocGlobal + Abort>(rt: &R, case: &Case<'_>) -> Result<(), Fa
 
 const FIRST: &[u8] = b"part 2/3 of bound 6 of 3 2 1 0\nx\n";
 
+const FIRST_SKIPPED: &str = "pdb_cli: the first of them is line 2 of a: x\n";
+
 const CUT: &[u8] = b"part 0/3 of bound 6 of 3 2 1 0\npart 1/3 of";
 
 const LAST: &[u8] = b" bound 6 of 3 2 1 0\npart 1/3 of bound 6 of 3 2 1 0\n";
@@ -64,6 +70,7 @@ fn parts_may_come_from_several_texts(rt: HostRuntime) -> Result<(), Fail> {
     let mut told = String::new(rt.alloc());
     told.push_str(skipped)?;
     told.push_str("1 of 3\n")?;
+    told.push_str(FIRST_SKIPPED)?;
     let open = Case {
         texts: &[FIRST, CUT],
         end: "3 2 1 0 : 6 part 1/3\n",
@@ -74,6 +81,7 @@ fn parts_may_come_from_several_texts(rt: HostRuntime) -> Result<(), Fail> {
     let mut told = String::new(rt.alloc());
     told.push_str(skipped)?;
     told.push_str("2 of 5\n")?;
+    told.push_str(FIRST_SKIPPED)?;
     let whole = Case {
         texts: &[FIRST, CUT, LAST],
         end: "joined bound 6 of 3 2 1 0 from 3 parts, by lines that were read\n",
