@@ -79,6 +79,7 @@ fn with_bytes<'t>(
         workers: prove.workers,
         fold: prove.fold,
         budget: prove.budget,
+        goal: prove.goal,
     }
 }
 
@@ -141,7 +142,13 @@ fn answer_claims<'n, H: Threads + Wait + Sync, G: Gate + Sync, I: Io>(
     let kept = tables.as_slice();
     let files = TableFiles { given, kept, fold };
     let (digested, bundle) = over_tables(files, Some(text), sets.as_slice(), workers, identity);
-    let ready = Ready::of(workers.alloc, claims, budget_of(command.0), bundle);
+    let ready = Ready::of(
+        workers.alloc,
+        command.0.goal,
+        claims,
+        budget_of(command.0),
+        bundle,
+    );
     let Ready { mut asked, bundle } = match begin(command, digested, ready, io) {
         Ok(ready) => ready,
         Err(ended) => return ended,
@@ -183,7 +190,8 @@ fn answer_over_tables<H: Threads + Sync, G: Gate + Sync, I: Io>(
     ensures told { (begun : World) → IsToldTo bundle.now begun (I.world io.old) asked.old
         → MatchResult result
         (λ _. IsToldTo bundle.now begun (I.world io.new) asked.new)
-        (λ _. AreCut bundle.now asked.new.budget begun (I.world io.new) (claims_of asked.new)) }
+        (λ _. AreCut asked.new.goal bundle.now asked.new.budget begun (I.world io.new)
+        (claims_of asked.new)) }
 {
     let mut help = Help::over_tables(bundle, may_want_words);
     answer_all(asked, &mut help, workers, io)?;
