@@ -7,7 +7,8 @@ use Rattle.puz_board.specs.MovesTexts.{Solves}
 use Rattle.puz_goal.specs.Goals.{SolvesFor}
 use Rattle.puz_goal.specs.Turning.{board_for, moves_for}
 use Rattle.puz_goal.specs.declared.goals.Goal.{Goal}
-use Rattle.puz_goal.proofs.GoalLemmas.{moves_twice, turning_keeps_bounds, turning_keeps_solutions}
+use Rattle.puz_goal.proofs.LetterLemmas.{moves_for-twice}
+use Rattle.puz_goal.proofs.SolvingLemmas.{bounded_for, solved_for}
 use Rattle.move_strings.specs.BoundParts.{IsPart}
 use Rattle.set_sum.specs.Bundles.{ShownBundle}
 use Rattle.puz_search.specs.Guides.{ShownGuide}
@@ -55,14 +56,14 @@ first_boards (claim ∷ first) others boards = (boards.0, first_boards first oth
 -- the moves of a solution of the board for the goal are, turned, one of the board
 turned_solve : (goal : Goal) (b letters : List ℕ) (n : ℕ) → IsBoard b → Solves (board_for goal b) letters n → SolvesFor goal b (moves_for goal letters) n
 turned_solve goal b letters n board solves =
-    (turning_keeps_solutions goal b (moves_for goal letters) n board).1
-    (subst (λ text. Solves (board_for goal b) text n) (sym (moves_twice goal letters)) solves)
+    solved_for goal b (moves_for goal letters) n board
+    (subst (λ text. Solves (board_for goal b) text n) (sym (moves_for-twice goal letters)) solves)
 
 module _ (goal : Goal) (guide : ShownGuide) (budget : ℕ) (b : List ℕ) where
   -- what is found for what a claim asks is told truly
   found_true : (asks : ShownAsks) (found : Finding) → IsBoard b × IsOfPart asks → IsFoundOf guide budget (board_for goal b) (asks_for goal asks) found
       → IsTrueFor goal (told_of goal b asks found)
-  found_true (claims.bound r) Bound board is = (board.0, (turning_keeps_bounds goal b r board.0).1 is.1.0)
+  found_true (claims.bound r) Bound board is = (board.0, bounded_for goal b r board.0 is.1.0)
   found_true (claims.bound r) (Optimum n) board is = absurd is
   found_true (claims.bound r) (Shortest n letters) board is = absurd is
   found_true (claims.bound r) (Shorter letters) board is = tt
@@ -77,7 +78,7 @@ module _ (goal : Goal) (guide : ShownGuide) (budget : ℕ) (b : List ℕ) where
   found_true (claims.moves text) Part board is = absurd is
   found_true (claims.moves text) Bound board is = absurd is
   found_true (claims.moves text) (Optimum n) board is =
-      (board.0, (turning_keeps_solutions goal b text n board.0).1 is.0, (turning_keeps_bounds goal b n board.0).1 is.2.1.0)
+      (board.0, solved_for goal b text n board.0 is.0, bounded_for goal b n board.0 is.2.1.0)
   found_true (claims.moves text) (Shortest n letters) board is = absurd is
   found_true (claims.moves text) (Shorter letters) board is = tt
   found_true (claims.moves text) (Refused refused) board is = tt
@@ -85,7 +86,7 @@ module _ (goal : Goal) (guide : ShownGuide) (budget : ℕ) (b : List ℕ) where
   found_true claims.shortest Bound board is = absurd is
   found_true claims.shortest (Optimum n) board is = absurd is
   found_true claims.shortest (Shortest n letters) board is =
-      (board.0, turned_solve goal b letters.items n board.0 is.0, (turning_keeps_bounds goal b n board.0).1 is.1)
+      (board.0, turned_solve goal b letters.items n board.0 is.0, bounded_for goal b n board.0 is.1)
   found_true claims.shortest (Shorter letters) board is = absurd is
   found_true claims.shortest (Refused refused) board is = tt
 

@@ -22,7 +22,7 @@ use claim_text::{
     shorter_line,
 };
 use move_strings::Automaton;
-use pdb_run::{AnswerLines, Io};
+use pdb_run::{AnswerLines, Io, Tally};
 use pdb_verdict::{Fault, line_of};
 use puz_goal::Goal;
 use puz_search::Letters;
@@ -57,6 +57,8 @@ pub(crate) struct Asked<'c> {
     pub(crate) is_yes: bool,
     /// Why the last of them is refused, if there is one and it is.
     pub(crate) refused: Option<Fault>,
+    /// How they are answered.
+    pub(crate) tally: Tally,
 }
 
 impl<'c> Asked<'c> {
@@ -75,6 +77,13 @@ impl<'c> Asked<'c> {
         ensures budget { IfOk result (λ asked. asked.budget ≡ budget) }
         ensures none { IfOk result (λ asked. (v : ShownBundle) (w : World) → IsToldTo v w w asked) }
     {
+        let tally = Tally {
+            claims: claims.len(),
+            optima: 0,
+            bounds: 0,
+            parts: 0,
+            refused: 0,
+        };
         let reversals = Automaton::of_reversals(alloc, bundle.side())?;
         let mut starts = Vec::new(alloc);
         for claim in claims.as_slice() {
@@ -89,6 +98,7 @@ impl<'c> Asked<'c> {
             told: 0,
             is_yes: true,
             refused: None,
+            tally,
         })
     }
 
@@ -129,7 +139,30 @@ impl<'c> Asked<'c> {
         self.told += 1;
         self.is_yes &= found.is_yes();
         self.refused = found.refusal();
+        self.tally = counted(self.tally, found);
         Ok(())
+    }
+}
+
+/// With one claim more, for which this is found.
+fn counted(tally: Tally, found: &Finding) -> Tally {
+    match found {
+        Finding::Bound => Tally {
+            bounds: tally.bounds.saturating_add(1),
+            ..tally
+        },
+        Finding::Part => Tally {
+            parts: tally.parts.saturating_add(1),
+            ..tally
+        },
+        Finding::Optimum(_) | Finding::Shortest(..) => Tally {
+            optima: tally.optima.saturating_add(1),
+            ..tally
+        },
+        Finding::Shorter(_) | Finding::Refused(_) => Tally {
+            refused: tally.refused.saturating_add(1),
+            ..tally
+        },
     }
 }
 

@@ -3,7 +3,7 @@
 use crate::mistakes_behind::{bound_spot, moves_spot};
 use crate::words_of_lines::{is_separator, word_at};
 use claim_text::{ClaimsFault, MOST_CLAIMS};
-use pdb_run::Spot;
+use pdb_run::{Beside, Spot};
 use puz_board::{Board, BoardFault};
 
 /// What the lines of answers begin with.
@@ -22,16 +22,16 @@ const ANSWERS: [&[u8]; 9] = [
 /// What files begin with that are no texts, of which something else is told.
 const FILES: [&[u8]; 2] = [b"PDBT", b"PDBL"];
 
-/// Where the first line that is no claim goes wrong, in a text that isn't read as claims for this.
-pub(crate) fn spot_of(text: &[u8], fault: ClaimsFault) -> Option<Spot> {
+/// What is told besides of a text that isn't read as claims for this: where the first line that is no claim goes wrong.
+pub(crate) fn beside_fault(text: &[u8], fault: ClaimsFault) -> Beside {
     match fault {
-        ClaimsFault::Memory => None,
+        ClaimsFault::Memory => Beside::Nothing,
         ClaimsFault::Q1 { line } if line >= MOST_CLAIMS => {
-            Some(spot(0, "a text has at most 1,048,576 claims"))
+            Beside::Spot(spot(0, "a text has at most 1,048,576 claims"))
         }
         ClaimsFault::Q1 { line } => {
             let found = text.split(|byte| *byte == b'\n').nth(line as usize);
-            spot_in(found.unwrap_or(b""))
+            spot_in(found.unwrap_or(b"")).map_or(Beside::Nothing, Beside::Spot)
         }
     }
 }

@@ -10,7 +10,7 @@ ghost use Rattle.pdb_run.specs.Answers.{all_bytes, answer_text, digest_lines};
 ghost use Rattle.pdb_run.specs.Ended.{HasItsStatus};
 ghost use Rattle.pdb_run.specs.Inputs.{wanted_of};
 ghost use Rattle.pdb_run.specs.Io.{HasRead};
-ghost use Rattle.pdb_run.specs.Runs.{World};
+ghost use Rattle.pdb_run.specs.Runs.{World, status_of_reply};
 ghost use Rattle.pdb_run.specs.Writing.{digests_of};
 ghost use Rattle.pdb_prove.specs.Prove.{AreReady, ClaimsFiles, ProveEnds, a_claims_text, budget_of, digested_files, in_order, prove_inputs, prove_plan};
 ghost use Rattle.pdb_prove.specs.Steps.{AreCut, HasBegun, IsAskedOver, IsCauseForClaims, IsRoomFor, IsSameAsked, IsToldTo, PrunesFor, claims_of, files_of};
@@ -18,13 +18,14 @@ ghost use Rattle.pdb_prove.specs.Steps.{AreCut, HasBegun, IsAskedOver, IsCauseFo
 use crate::asked::{Asked, Ready, of_claims};
 use crate::batches::answer_all;
 use crate::help::Help;
+use crate::mistakes::beside_fault;
 use crate::words::TableWords;
 use byte_io::streams::WriteFault;
 use claim_text::{Claim, read_claims};
 use move_strings::Automaton;
 use pdb_request::Prove;
 use pdb_run::{
-    AnswerLines, Cause, Command, CommandAnswer, Digested, Ended, Input, Io, conclude, read_inputs,
+    AnswerLines, Beside, Cause, Command, CommandAnswer, Digested, Ended, Input, Io, conclude, read_inputs,
 };
 use pdb_verdict::{Fault, TableFiles, a_text, given_up, over_tables, told_or_memory, with_tables};
 use set_sum::Bundle;
@@ -107,7 +108,8 @@ pub fn run_prove<'n, H: Threads + Wait + Sync, G: Gate + Sync, I: Io>(
         Ok(claims) => answer_claims(&command, claims, files, workers, io),
         Err(fault) => {
             let digested = Digested::Files(files.tables.as_slice(), Some(files.claims));
-            tell_fault(&command, digested, of_claims(fault), io)
+            let beside = beside_fault(files.claims, fault);
+            tell_fault(&command, digested, of_claims(fault), io).telling(beside)
         }
     }
 }
@@ -158,16 +160,24 @@ fn answer_claims<'n, H: Threads + Wait + Sync, G: Gate + Sync, I: Io>(
         Err(_) => return Ended::by(Some(Cause::Unwritten)),
     };
     let Some(words) = words else {
-        return Ended::answered(asked.is_yes, asked.refused);
+        return told_end(&asked);
     };
     drop(bundle);
     let words = words.fill(tables, workers);
     let bundle = words.bundle();
     let mut help = Help::over_words(&bundle, strings);
     match answer_all(&mut asked, &mut help, workers, io) {
-        Ok(()) => Ended::answered(asked.is_yes, asked.refused),
+        Ok(()) => told_end(&asked),
         Err(_) => Ended::by(Some(Cause::Unwritten)),
     }
+}
+
+/// The end of a run in which all claims are told.
+fn told_end<'n>(asked: &Asked<'_>) -> Ended<'n, Fault>
+    ensures caused { HasItsStatus result }
+    ensures status { result.status ≡ status_of_reply asked.now.is_yes }
+{
+    Ended::answered(asked.is_yes, asked.refused).telling(Beside::Tally(asked.tally))
 }
 
 /// Answers claims over the tables of a bundle, until words are wanted. They may be wanted only where this is said. The memory for

@@ -1,6 +1,6 @@
 use Rattle.std.proofs.Common.{ap}
 use Rattle.puz_goal.specs.Turning.{moves_for}
-use Rattle.puz_goal.proofs.GoalLemmas.{turning_keeps_solutions}
+use Rattle.puz_goal.proofs.SolvingLemmas.{solves_for}
 use Rattle.claim_text.specs.Shown.{asks_shown, claim_shown}
 use Rattle.pdb_prove.specs.Answers.{asks_for, claim_for}
 use Rattle.pdb_prove.proofs.QuestionLemmas.{bound_found, part_found}
@@ -19,8 +19,8 @@ returns-in-Part-clause-ok c = λ guide budget answer is.
 -- a search for a shorter solution answers that of moves
 pub returns-in-Ok-clause-ok : goal.returns-in-Ok-clause-ok
 returns-in-Ok-clause-ok c =
-    let goal = c.args.goal in
+    let home = c.args.goal in
     let claim = c.args.claim.now in
     let moves = c.in-Moves.moves.now in
-    let solves = (turning_keeps_solutions goal claim.board moves c.in-Ok.count c.side-side.ensures.board).0 c.in-Ok.ensures.ok in
-    c.shorter_than.ensures (claim_for goal (claim_shown claim)) (moves_for goal moves) (ap (λ asks. asks_for goal (asks_shown asks)) c.in-Moves.is) solves
+    let solves = solves_for home claim.board moves c.in-Ok.count c.side-side.ensures.board c.in-Ok.ensures.ok in
+    c.shorter_than.ensures (claim_for home (claim_shown claim)) (moves_for home moves) (ap (λ asks. asks_for home (asks_shown asks)) c.in-Moves.is) solves

@@ -80,7 +80,7 @@ returns-in_default-clause-ends g c = λ old are same.
     let first = c.answer_over_tables.ensures.same in
     let done = rw c.in_default.is at c.in-Ok-answer_over_tables.ensures.wanted in
     ends_answered _ c.answer_over_tables.new.asked (has_begun g at are same) first (goal_is g at) (budget_is g at) _ (rw first.claims done)
-    (c.in-Ok-answer_over_tables.ensures.told _ (none _ _)) c.answered.ensures.status
+    (c.in-Ok-answer_over_tables.ensures.told _ (none _ _)) c.told_end.ensures.status
 
 -- words are wanted of the full tables of the files, whose bytes are there, and there is all memory for them
 wanted : (g : Over) (c : In-Some g)
@@ -132,7 +132,7 @@ returns-in-Ok-answer_all-clause-ends g c = λ old are same.
     let next = rw (leads g at.After-over_words-help (wanted g at.In-Some).1) at c.in-Ok-answer_all.ensures.told in
     let done = rw (c.answer_all.ensures.goes_on c.over_words-help.ensures.goes_on, ← c.answer_all.ensures.same.claims) at c.in-Ok-answer_all.ensures.wanted in
     ends_answered _ c.answer_all.new.asked (has_begun g at.In-Ok are same) whole (goal_is g at.In-Ok) (budget_is g at.In-Ok) _ done
-    (next _ (c.in-Ok-answer_over_tables.ensures.told _ (none _ _))) c.answered-in-Ok-answer_all.ensures.status
+    (next _ (c.in-Ok-answer_over_tables.ensures.told _ (none _ _))) c.told_end-in-Ok-answer_all.ensures.status
 
 -- where they aren't, it is cut short
 pub returns-clause-ends : goal.returns-clause-ends
