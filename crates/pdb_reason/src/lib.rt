@@ -2,9 +2,11 @@
 #![tactic(auto)]
 
 mod beginnings;
+mod besides;
 mod outs;
 mod reasons;
 mod texts;
 
 pub use beginnings::Beginning;
+pub use besides::Summary;
 pub use reasons::Reason;

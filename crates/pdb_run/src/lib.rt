@@ -17,7 +17,7 @@ pub use commands::{Command, Input};
 pub use digests::{
     DIGEST_LEN, DIGESTS_LEN, Digests, FILES_BESIDE, beside, digested_beside, with_digest,
 };
-pub use ends::{Cause, Ended};
+pub use ends::{Beside, Cause, Ended, Spot, Tally};
 pub use inputs::{Unread, load_all};
 pub use io::{BorrowedIo, Io};
 pub use runs::{
