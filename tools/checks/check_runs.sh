@@ -814,6 +814,37 @@ expect 'a remark behind a space' 1 '3 2 1 0 : 6 part 0/1' : parts board 6 1 rema
 skipped=
 rm lines_of_5 remarks $'first\nlines'
 
+# With the blank last, lines that say so count, and no others; moves are played to that goal.
+echo '0 3 2 1' >board_last
+for index in 0 1 2; do
+    echo "part $index/3 of bound 6 of 0 3 2 1 with the blank last"
+done >lines_last
+all_last='joined bound 6 of 0 3 2 1 from 3 parts, by lines that were read, with the blank last'
+joins 'parts with the blank last' "$all_last" board_last 6 3 lines_last --goal last
+open_last=('0 3 2 1 : 6 part 0/3' '0 3 2 1 : 6 part 1/3' '0 3 2 1 : 6 part 2/3')
+skipped='3 of 3'
+first="line 1 of lines_last: $(head -n 1 lines_last)"
+expect 'parts with the blank last, for the blank first' 1 "${open_last[@]}" : parts board_last 6 3 lines_last
+expect 'the same, with the goal named' 1 "${open_last[@]}" : parts board_last 6 3 lines_last --goal first
+sed 's/ with .*//' lines_last >lines_first
+first="line 1 of lines_first: $(head -n 1 lines_first)"
+expect 'parts with the blank first, for the blank last' 1 "${open_last[@]}" : parts board_last 6 3 lines_first --goal last
+skipped=
+echo 'refused O2 by DRULDR of 0 3 2 1 : 7 part 0/1 with the blank last' >refuted_last
+expect 'a refuted part with the blank last' 1 'refused O2 by DRULDR of 0 3 2 1 : 7 with the blank last' : \
+    parts board_last 7 1 refuted_last --goal last
+echo 'refused K1 of 0 3 2 1 : 6 part 1/3 with the blank last' >spent_last
+ended='1 of 3'
+expect 'a part with the blank last that a budget ended' 1 '0 3 2 1 : 6 part 1/3' : \
+    parts board_last 6 3 spent_last <(sed 2d lines_last) --goal last
+ended=
+# Moves to the other goal show nothing: these lead from the board to 0 1 2 3.
+skipped='1 of 1'
+echo 'refused O2 by ULDRUL of 3 2 1 0 : 7 part 0/1 with the blank last' >refuted_last
+first="line 1 of refuted_last: $(cat refuted_last)"
+expect 'moves to the other goal' 1 '3 2 1 0 : 7 part 0/1' : parts board 7 1 refuted_last --goal last
+skipped=
+
 # Bounds and moves of several claims, joined by a script.
 ln -s "$program" pdb_cli
 joins_claims() {
@@ -832,7 +863,24 @@ joined=('refused O2 by ULDRUL of 3 2 1 0 : 7' 'join_claims.py: no line tells of 
     "join_claims.py: the moves don't solve 3 2 1 0 ; ULDRULL" 'join_claims.py: open are 62 of 63 parts of bound 0 of 0 1 2 3'
     'join_claims.py: 0 of 4 claims hold by what was read')
 joins_claims 'claims that lines and moves do not give' 1 part_lines other_part_lines
-rm pdb_cli
+digest=$(sha256sum <lines_last)
+claims=('0 3 2 1 ; DRULDR')
+joined=("sha256 ${digest%% *}" "$all_last" 'solution 6 with the blank last'
+    'join_claims.py: 6 moves are the fewest of 0 3 2 1 ; DRULDR, by a replay and by 3 parts whose lines were read, with the blank last'
+    'join_claims.py: 1 of 1 claims hold by what was read')
+joins_claims 'claims with the blank last' 0 part_lines lines_last --goal last
+# Parts are answered round after round.
+mkdir rounds
+ln -s ../{pdb_cli,board,board_last,one_set,F12} rounds
+for words in 'board 6 3' '--goal last board_last 6 3'; do
+    status=0
+    # shellcheck disable=SC2086
+    (cd rounds && "$root/tools/claims/parts.sh" $words ./pdb_cli prove - one_set F12) >"$work/output" 2>"$work/errors" || status=$?
+    said=$all_of_3
+    [[ $words == board* ]] || said=$all_last
+    check "rounds of $words" [ "$status.$(head -n 1 "$work/output").$(tail -n 1 "$work/output")" = "0.round 1: 3 of 3 parts open.$said" ]
+done
+rm -r pdb_cli rounds
 
 expect 'parts of a text that is no board' 1 'refused B3 count 0' : parts /dev/null 6 3 part_lines
 expect 'parts of a board that is not there' 2 'fault read B' : parts B 6 3 part_lines

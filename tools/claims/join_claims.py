@@ -1,7 +1,7 @@
 #!/usr/bin/env python3
 """Says of each claim of a file whether it holds by answer lines, as `pdb_cli parts` joins them, and by moves, as `pdb_cli replay` plays them.
 
-    join_claims.py [--goal last] CLAIMS ANSWERS..
+    join_claims.py CLAIMS ANSWERS.. [--goal last]
 
 CLAIMS has a claim a line, `BOARD : N` or `BOARD ; MOVES`. ANSWERS are files of lines that `prove` wrote. For each claim the counts K are
 found that their lines on parts of its bound have, and `parts BOARD N K` is run on the files with such lines; of moves N is their count.
@@ -71,6 +71,7 @@ class Joiner:
     def __init__(self, answers, options):
         self.answers = answers
         self.options = options
+        self.end = ", with the blank last" if options[1:] == ["last"] else ""
         self.written = set()
 
     def write(self, lines):
@@ -108,17 +109,19 @@ class Joiner:
         if parts is None:
             return False
         print(lines[-1])
-        print(f"join_claims.py: {count} moves are the fewest of {board} ; {moves}, by a replay and by {parts} parts whose lines were read")
+        print(f"join_claims.py: {count} moves are the fewest of {board} ; {moves}, by a replay and by {parts} parts whose lines were read{self.end}")
         return True
 
 
 def main():
     words = sys.argv[1:]
     options = []
-    if words[:1] == ["--goal"] and words[1:2] in (["first"], ["last"]):
-        options, words = words[:2], words[2:]
-    if len(words) < 2 or words[0].startswith("-"):
-        print("usage: join_claims.py [--goal last] CLAIMS ANSWERS..", file=sys.stderr)
+    if "--goal" in words:
+        place = words.index("--goal")
+        options = words[place : place + 2]
+        del words[place : place + 2]
+    if len(words) < 2 or options and options[1:] not in (["first"], ["last"]):
+        print("usage: join_claims.py CLAIMS ANSWERS.. [--goal last]", file=sys.stderr)
         sys.exit(2)
     claims = read_claims(words[0])
     joiner = Joiner(find_answers(words[1:], options[1] if options else "first"), options)

@@ -11,7 +11,8 @@ use Rattle.std.proofs.lemmas.Slice.Eq.{bytes_eq-Decides, starts_is}
 use Rattle.std.specs.List.{AllPass, list_all, range_with_len}
 use Rattle.std.specs.Str.{bytes_eq}
 use Rattle.puz_board.specs.BoardTexts.{is_separator}
-use Rattle.puz_board.specs.MovesTexts.{Solves, is_letter}
+use Rattle.puz_board.specs.MovesTexts.{is_letter}
+use Rattle.puz_goal.specs.Goals.{SolvesFor}
 use Rattle.claim_text.specs.Claims.{HasNo}
 use Rattle.claim_text.specs.Lines.{refused, told_line}
 use Rattle.pdb_parts.specs.Beside.{is_aside, is_digest, is_of_search, is_one_of, spent_line, unsolved_line}
@@ -19,7 +20,7 @@ use Rattle.pdb_parts.specs.Joining.{Refutes, RefutesNot, ShownBoundInParts, clai
 use Rattle.pdb_parts.specs.Stored.{IsAnswerOf}
 use Rattle.pdb_parts.specs.declared.answers.PartAnswer.TheVariants.{Holds, Other, Skipped, Spent}
 
-head_of : ℕ → List ℕ → ℕ
+pub head_of : ℕ → List ℕ → ℕ
 head_of d [] = d
 head_of d (x ∷ xs) = x
 
@@ -126,7 +127,7 @@ module _ (asked : ShownBoundInParts) (line : List ℕ) where
 
   -- it refuses the claim of this part alone, and for this alone
   abbrev pub IsAloneFor : List ℕ → ℕ → Type 0
-  IsAloneFor what i = (other : List ℕ) (j : ℕ) → HasNo 111 other → j < asked.count → line ≡ told_line (refused other (claim_of asked j))
+  IsAloneFor what i = (other : List ℕ) (j : ℕ) → HasNo 111 other → j < asked.count → line ≡ told_line asked.goal (refused other (claim_of asked j))
       → (other ≡ what) × (j ≡ i)
 
   -- the parts of a test of four
@@ -181,12 +182,12 @@ module _ (asked : ShownBoundInParts) (line : List ℕ) where
   }
 
   -- of moves that are fewer
-  pub moves_refute : (what moves : List ℕ) (i n : ℕ) → i < asked.count → line ≡ told_line (refused what (claim_of asked i))
-      → what ≡ codes "refused O2 by" ++ moves → Solves asked.board moves n → n < asked.bound → Refutes asked line moves
+  pub moves_refute : (what moves : List ℕ) (i n : ℕ) → i < asked.count → line ≡ told_line asked.goal (refused what (claim_of asked i))
+      → what ≡ codes "refused O2 by" ++ moves → SolvesFor asked.goal asked.board moves n → n < asked.bound → Refutes asked line moves
   moves_refute what moves i n below is words solves fewer = record {
     index = i;
     below = below;
-    is = is ∙ ap (λ (w : List ℕ). told_line (refused w (claim_of asked i))) words;
+    is = is ∙ ap (λ (w : List ℕ). told_line asked.goal (refused w (claim_of asked i))) words;
     count = n;
     solves = solves;
     fewer = fewer;
@@ -252,7 +253,7 @@ module _ (asked : ShownBoundInParts) (line : List ℕ) where
 
     -- so it is where the line refuses no claim of a part
     pub no_claim_answer : is_aside line ≡ false
-        → ((what : List ℕ) (j : ℕ) → HasNo 111 what → j < asked.count → ¬ (line ≡ told_line (refused what (claim_of asked j))))
+        → ((what : List ℕ) (j : ℕ) → HasNo 111 what → j < asked.count → ¬ (line ≡ told_line asked.goal (refused what (claim_of asked j))))
         → IsAnswerOf asked line Skipped
     no_claim_answer no_aside none =
         skipped_answer no_aside (λ j below. none (codes "refused K1") j k1_no below) (λ j below. none (codes "refused K2") j k2_no below)
@@ -260,7 +261,7 @@ module _ (asked : ShownBoundInParts) (line : List ℕ) where
 
     -- and where it refuses one for something else
     pub other_claim_answer : (what : List ℕ) (i : ℕ) → is_aside line ≡ false → IsAloneFor what i → ¬ (what ≡ codes "refused K1") → ¬ (what ≡ codes "refused K2")
-        → ((moves : List ℕ) (n : ℕ) → what ≡ codes "refused O2 by" ++ moves → Solves asked.board moves n → ¬ (n < asked.bound))
+        → ((moves : List ℕ) (n : ℕ) → what ≡ codes "refused O2 by" ++ moves → SolvesFor asked.goal asked.board moves n → ¬ (n < asked.bound))
         → IsAnswerOf asked line Skipped
     other_claim_answer what i no_aside alone no_k1 no_k2 no_moves =
         skipped_answer no_aside

@@ -21,10 +21,10 @@ use Rattle.pdb_parts.specs.Parts.{asked_of_board, parts_inputs}
 
 -- the line that says that a budget ended the search of the part with this index; that its board has no solution
 abbrev pub spent_line : ShownBoundInParts → ℕ → List ℕ
-spent_line asked index = told_line (refused (codes "refused K1") (claim_of asked index))
+spent_line asked index = told_line asked.goal (refused (codes "refused K1") (claim_of asked index))
 
 abbrev pub unsolved_line : ShownBoundInParts → ℕ → List ℕ
-unsolved_line asked index = told_line (refused (codes "refused K2") (claim_of asked index))
+unsolved_line asked index = told_line asked.goal (refused (codes "refused K2") (claim_of asked index))
 
 -- the line is that of one of so many indices
 abbrev pub is_one_of : (ℕ → List ℕ) → ℕ → List ℕ → Bool

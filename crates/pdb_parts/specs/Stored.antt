@@ -13,7 +13,7 @@ use Rattle.pdb_parts.specs.declared.marks.BoundInParts.{BoundInParts}
 
 -- the bound in parts
 abbrev pub shown : BoundInParts → ShownBoundInParts
-shown asked = record { board = asked.board; bound = asked.bound; count = asked.count }
+shown asked = record { board = asked.board; bound = asked.bound; count = asked.count; goal = asked.goal }
 
 -- ---- one line
 

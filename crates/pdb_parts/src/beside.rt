@@ -56,7 +56,7 @@ pub(crate) fn counts_text(
     asked: &BoundInParts,
 ) -> Result<String, AllocError>
     requires { AreParts asked.now.count }
-    ensures { let first = first_told (shown asked.now) (file_names files.names.now) (all_bytes files.texts.now) in
+    ensures { let first = first_told (shown asked.now) (file_names files.entry.names.now) (all_bytes files.entry.texts.now) in
         IfOk result (λ text. string_bytes text ≡ counts_text counts.skipped counts.all first spent asked.now.count) }
 {
     let mut text = skipped_text(alloc, files, counts, asked)?;
@@ -80,7 +80,7 @@ fn skipped_text(
     asked: &BoundInParts,
 ) -> Result<String, AllocError>
     requires { AreParts asked.now.count }
-    ensures { let first = first_told (shown asked.now) (file_names files.names.now) (all_bytes files.texts.now) in
+    ensures { let first = first_told (shown asked.now) (file_names files.entry.names.now) (all_bytes files.entry.texts.now) in
         let line = skipped_line counts.skipped counts.all in
         IfOk result (λ text. string_bytes text ≡ where_some counts.skipped (line ++ first)) }
 {

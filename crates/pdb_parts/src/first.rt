@@ -33,8 +33,8 @@ pub(crate) fn first_told(
     asked: &BoundInParts,
 ) -> Result<String, AllocError>
     requires { AreParts asked.now.count }
-    ensures { let names = file_names files.names.now in
-        IfOk result (λ text. string_bytes text ≡ first_told (shown asked.now) names (all_bytes files.texts.now)) }
+    ensures { let names = file_names files.entry.names.now in
+        IfOk result (λ text. string_bytes text ≡ first_told (shown asked.now) names (all_bytes files.entry.texts.now)) }
 {
     for index in 0..files.names.len().min(files.texts.len()) {
         if let Some(skipped) = first_skipped(files.texts[index].as_slice(), asked) {
@@ -77,7 +77,7 @@ fn is_skipped(line: &[u8], asked: &BoundInParts) -> bool
 /// What is told of the first line that is skipped, of a file of this name.
 fn first_line(alloc: Global, name: &str, skipped: SkippedLine<'_>) -> Result<String, AllocError>
     ensures { IfOk result
-        (λ text. string_bytes text ≡ first_line name.now skipped.number skipped.line.now) }
+        (λ text. string_bytes text ≡ first_line name.now skipped.entry.number skipped.entry.line.now) }
 {
     let end = skipped.line.len().saturating_sub(1).min(MOST_QUOTED);
     let mut text = String::new(alloc);

@@ -2,7 +2,7 @@
 
 ghost use Rattle.std.specs.Prelude.{◌≡◌, ◌≤◌, ◌<◌, ◌&&◌, ◌++◌, ℕ, false, filter, flat_map, length, not, slice_index_or, string_bytes, IfOk};
 ghost use Rattle.std.specs.List.{list_all, range_with_len};
-ghost use Rattle.puz_board.specs.MovesTexts.{Solves};
+ghost use Rattle.puz_goal.specs.Goals.{SolvesFor};
 ghost use Rattle.claim_text.specs.Claims as claims;
 ghost use Rattle.claim_text.specs.Claims.{ShownClaim};
 ghost use Rattle.claim_text.specs.Lines.{joined_line, shorter, told_line};
@@ -19,6 +19,7 @@ use crate::marks::{BoundInParts, Marks, Told, mark_all};
 use claim_text::{Asks, Claim, Line, claim_line, joined_line, shorter_line};
 use move_strings::BoundPart;
 use puz_board::Board;
+use puz_goal::Goal;
 use sha2::{Digest, Sha256};
 use std::alloc::{AllocError, Global};
 
@@ -38,13 +39,13 @@ pub fn join(
     asked: &BoundInParts,
 ) -> Result<Joined, AllocError>
     requires { AreParts asked.now.count }
-    ensures { let names = file_names files.names.now in
-        IfOk result (λ joined. IsJoined joined names (all_bytes files.texts.now) (shown asked.now)) }
+    ensures { let names = file_names files.entry.names.now in
+        IfOk result (λ joined. IsJoined joined names (all_bytes files.entry.texts.now) (shown asked.now)) }
 {
     let told = mark_all(alloc, files.texts, asked)?;
     match told {
         Told::Against(moves) => {
-            let text = false_text(alloc, moves, &asked.board, asked.bound)?;
+            let text = false_text(alloc, asked.goal, moves, &asked.board, asked.bound)?;
             Ok(Joined {
                 text,
                 is_yes: false,
@@ -65,8 +66,8 @@ fn join_marked(
     requires parts { AreParts asked.now.count }
     requires marks { let lines = flat_map whole_lines (all_bytes files.texts.now) in
         MarksLines (shown asked.now) lines marks.now }
-    ensures { let names = file_names files.names.now in
-        IfOk result (λ joined. IsJoined joined names (all_bytes files.texts.now) (shown asked.now)) }
+    ensures { let names = file_names files.entry.names.now in
+        IfOk result (λ joined. IsJoined joined names (all_bytes files.entry.texts.now) (shown asked.now)) }
 {
     let holds = marks.holds.as_slice();
     let spent = count_spent(holds, marks.spent.as_slice());
@@ -111,27 +112,34 @@ fn count_spent(holds: &[bool], spent: &[bool]) -> usize
 }
 
 /// The line that says that moves show the bound of a board to be false.
-fn false_text(alloc: Global, moves: &[u8], board: &Board, bound: u8) -> Result<String, AllocError>
-    requires { (n : ℕ) × Solves board.now moves.now n × (n < bound) }
+fn false_text(
+    alloc: Global,
+    goal: Goal,
+    moves: &[u8],
+    board: &Board,
+    bound: u8,
+) -> Result<String, AllocError>
+    requires { (n : ℕ) × SolvesFor goal board.now moves.now n × (n < bound) }
     ensures { let claim : ShownClaim = record { board = board.now; asks = claims.bound bound } in
-        IfOk result (λ text. string_bytes text ≡ told_line (shorter moves.now claim)) }
+        IfOk result (λ text. string_bytes text ≡ told_line goal (shorter moves.now claim)) }
 {
     let claim = Claim {
         board: *board,
         asks: Asks::Bound(bound),
     };
     let mut text = String::new(alloc);
-    text.push_str(shorter_line(moves, &claim).as_str())?;
+    text.push_str(shorter_line(goal, moves, &claim).as_str())?;
     Ok(text)
 }
 
 /// The digest lines of the texts, and the line of the bound behind them.
 fn bound_text(alloc: Global, texts: &[Vec<u8>], asked: &BoundInParts) -> Result<String, AllocError>
-    ensures { let line = joined_line asked.now.bound asked.now.count asked.now.board in
+    ensures { let line = joined_line asked.now.goal asked.now.bound asked.now.count asked.now.board in
         IfOk result (λ text. string_bytes text ≡ digests_of (all_bytes texts.now) ++ line) }
 {
     let mut text = digest_lines(alloc, texts)?;
-    text.push_str(joined_line(asked.bound, asked.count, &asked.board).as_str())?;
+    let line = joined_line(asked.goal, asked.bound, asked.count, &asked.board);
+    text.push_str(line.as_str())?;
     Ok(text)
 }
 

@@ -76,6 +76,7 @@ fn with_bytes(
     requires { 1 ≤ length inputs.items }
     ensures bound { result.bound ≡ asked.now.bound }
     ensures count { result.count ≡ asked.now.count }
+    ensures goal { result.goal ≡ asked.now.goal }
     ensures inputs { all_bytes inputs.items ≡ result.board.items ∷ all_bytes result.answers.items }
 {
     let mut answers = inputs;
@@ -84,6 +85,7 @@ fn with_bytes(
         bound: asked.bound,
         count: asked.count,
         answers,
+        goal: asked.goal,
     }
 }
 
@@ -128,6 +130,7 @@ pub fn run_parts<'n, I: Io, E: Write>(
         board,
         bound: read.bound,
         count: read.count,
+        goal: read.goal,
     };
     match join(alloc, files, &asked) {
         Ok(joined) => say_joined(&joined, io, err),

@@ -5,6 +5,7 @@ use claim_text::{Asks, part_line, read_claims};
 use move_strings::BoundPart;
 use pdb_parts::{AnswerFiles, BoundInParts, Joined, join};
 use puz_board::Board;
+use puz_goal::Goal;
 use std::alloc::{AllocError, AllocGlobal, Global};
 use std::process::Abort;
 use std::test::Fail;
@@ -21,6 +22,7 @@ fn joined<R: AllocGlobal + Abort>(rt: &R, count: u16, texts: &[Vec<u8>]) -> Join
         board: board(rt),
         bound: 6,
         count,
+        goal: Goal::First,
     };
     let files = AnswerFiles {
         names: &["a", "b", "c"],
@@ -107,7 +109,11 @@ fn open_parts_are_read_as_claims_and_their_answers_give_the_bound(
     let mut answers = Vec::new(rt.alloc());
     for index in 0..63 {
         let part = BoundPart::new(index, 63).expect(&rt, "a part");
-        answers.extend_from_slice(part_line(part, 6, &board(&rt)).as_str().as_bytes())?;
+        answers.extend_from_slice(
+            part_line(Goal::First, part, 6, &board(&rt))
+                .as_str()
+                .as_bytes(),
+        )?;
     }
     let last = BoundPart::new(62, 63).expect(&rt, "a part");
     expect_last(&rt, open.text.as_bytes(), 63, last);

@@ -9,8 +9,8 @@ use Rattle.pdb_parts.proofs.answers.read_answer.Goals as goal
 
 module _ (asked : ShownBoundInParts) (line what words : List ℕ) (i : ℕ) (same : what ≡ words) where
   -- what the line refuses the claim for
-  is_for : line ≡ told_line (refused what (claim_of asked i)) → line ≡ told_line (refused words (claim_of asked i))
-  is_for is = is ∙ ap (λ (w : List ℕ). told_line (refused w (claim_of asked i))) same
+  is_for : line ≡ told_line asked.goal (refused what (claim_of asked i)) → line ≡ told_line asked.goal (refused words (claim_of asked i))
+  is_for is = is ∙ ap (λ (w : List ℕ). told_line asked.goal (refused w (claim_of asked i))) same
 
   alone_for : IsAloneFor asked line what i → IsAloneFor asked line words i
   alone_for alone = λ other j none below is. let both = alone other j none below is in (both.0 ∙ same, both.1)

@@ -1,4 +1,4 @@
-use Rattle.std.proofs.Common.{◌≡◌, ◌∙◌, ◌&&◌, Bool, List, None, ap, false, filter, flat_map, get_or, length, not, sym, true, ℕ}
+use Rattle.std.proofs.Common.{◌≡◌, ◌∙◌, Bool, List, None, ap, false, filter, flat_map, get_or, not, sym, true, ℕ}
 use Rattle.std.proofs.lemmas.Bool.{cond-false, cond-true}
 use Rattle.std.specs.List.{list_all, range_with_len}
 use Rattle.pdb_request.specs.Asked.{file_names}
@@ -6,7 +6,7 @@ use Rattle.pdb_run.specs.Answers.{all_bytes}
 use Rattle.pdb_run.specs.Commands.{Reply}
 use Rattle.pdb_run.specs.Writing.{reply_text}
 use Rattle.byte_io.specs.Shelf.{Bytes}
-use Rattle.pdb_parts.specs.Beside.{counts_text, first_told, spent_parts}
+use Rattle.pdb_parts.specs.Beside.{counts_text, first_told}
 use Rattle.pdb_parts.specs.Joining.{ShownBoundInParts, are_told, bound_reply, joined_reply, open_claim, open_reply, whole_lines}
 use Rattle.pdb_parts.specs.Steps.{MarksLines}
 use Rattle.pdb_parts.specs.Stored.{shown}
