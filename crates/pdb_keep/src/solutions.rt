@@ -7,22 +7,24 @@ use arrayvec::ArrayString;
 use itoa::Buffer;
 use pdb_run::{AnswerLines, lines};
 use puz_board::Move;
+use puz_goal::Goal;
 
 /// The most letters of the moves of an optimum: how many they are is a byte.
 const MOST_LETTERS: usize = u8::MAX as usize;
 
-/// The letters of the moves of a text, and how many they are.
-pub(crate) fn lines_on(moves: &[u8], count: u8) -> AnswerLines
+/// The letters of the moves of a text, and how many they are, for a goal.
+pub(crate) fn lines_on(goal: Goal, moves: &[u8], count: u8) -> AnswerLines
     requires { length (letters_of moves.now) ≡ count }
-    ensures { result.bytes ≡ lines_on moves.now count }
+    ensures { result.bytes ≡ lines_on goal moves.now count }
 {
     let letters = letters_of(moves);
     let mut digits = Buffer::new();
     let count = digits.format(count);
+    let end = goal.words();
     if letters.is_empty() {
-        lines(&["moves\noptimal ", count, "\n"])
+        lines(&["moves", end, "\noptimal ", count, end, "\n"])
     } else {
-        lines(&["moves ", letters.as_str(), "\noptimal ", count, "\n"])
+        lines(&["moves ", letters.as_str(), end, "\noptimal ", count, end, "\n"])
     }
 }
 

@@ -10,6 +10,7 @@ use pdb_request::Request;
 use pdb_run::{Beside, Cause, Spot};
 use pdb_verdict::Fault;
 use puz_board::MoveFault;
+use puz_goal::Goal;
 use set_sum::SetFault;
 use std::fmt;
 use std::fmt::{Display, Formatter};
@@ -52,6 +53,8 @@ pub struct Reason<'a> {
     /// Where the line that is refused goes wrong, where that is known.
     spot: Option<Spot>,
     beginning: Beginning,
+    /// Where the blank was taken to be at home.
+    goal: Goal,
     /// Whether the run has still to end.
     is_ahead: bool,
 }
@@ -65,6 +68,7 @@ impl<'a> Reason<'a> {
             spared: None,
             spot: None,
             beginning: Beginning::OfAny,
+            goal: asked.goal(),
             is_ahead: false,
         })
     }
@@ -104,11 +108,25 @@ impl<'a> Reason<'a> {
             (Subject::Run, _)
             | (Subject::Table(_), Beginning::OfTable)
             | (Subject::Log, Beginning::OfLog) => Beginning::OfAny,
-            (Subject::Goal, Beginning::OfBoardWithBlankLast) => beginning,
-            (_, Beginning::OfBoardWithBlankLast) => Beginning::OfAny,
+            (Subject::Goal, Beginning::OfBoardSolvedLast | Beginning::OfBoardWithBlankLast) => {
+                self.of_board(beginning)
+            }
+            (_, Beginning::OfBoardSolvedLast | Beginning::OfBoardWithBlankLast) => {
+                Beginning::OfAny
+            }
             _ => beginning,
         };
         Reason { beginning, ..self }
+    }
+
+    /// What is said of a board that begins so: that it has a solution with the blank last, where it was said to have none; or that its
+    /// blank stands last. Nothing where the blank was taken to be last at home.
+    fn of_board(&self, beginning: Beginning) -> Beginning {
+        match (self.goal, self.why, beginning) {
+            (Goal::Last, _, _) => Beginning::OfAny,
+            (Goal::First, Cause::Refused(Fault::K2), _) => beginning,
+            (Goal::First, _, _) => Beginning::OfBoardWithBlankLast,
+        }
     }
 
     /// What it speaks of.

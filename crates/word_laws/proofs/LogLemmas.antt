@@ -7,6 +7,7 @@ use Rattle.clap.specs.Walk.{Text}
 use Rattle.clap.specs.declared.error.kind.ErrorKind.TheVariants as kind
 use Rattle.clap.proofs.OnLiterals.{clap_on_literals}
 use Rattle.pdb_request.specs.Asked.{Asked, bound, optimal}
+use Rattle.puz_goal.specs.declared.goals.Goal.TheVariants.{Last}
 use Rattle.pdb_words.specs.Budget.{usual_budget}
 use Rattle.pdb_words.specs.CommandLine.{faults_of}
 use Rattle.pdb_words.specs.Commands.{IsCommand, IsPlain}
@@ -16,7 +17,7 @@ use Rattle.pdb_words.proofs.CommandLemmas.{faults_behind, mistaken}
 use Rattle.word_laws.proofs.WalkLemmas.{AsksIf, Comes, FitsTables, Word, asks_if, budgets, flag, missing, numbered, plain, tables_come, text_of}
 use Rattle.word_laws.proofs.WalkLemmas.{unless, workers}
 use Rattle.word_laws.specs.Asking.{AsksFor}
-use Rattle.word_laws.specs.LogWords.{AsksOfLog, LogNames, NamesLog, log_words, of_names, search_within, with_fold}
+use Rattle.word_laws.specs.LogWords.{AsksOfLog, LogNames, NamesLog, log_words, of_names, of_names_for, search_within, with_fold}
 use Rattle.word_laws.specs.NumberTexts.{writes_budget, writes_workers}
 
 -- a command that names a log
@@ -83,6 +84,12 @@ module _ (names : LogNames) where
   plain_asked : (command : LogCommand) (folds : Bool) → AsksFor (name_of command ∷ with_fold folds (log_words names)) (of_names (asks command) names 1 folds)
   unfolding clap_on_literals
   plain_asked command folds = rw append-nil at (each_comes [] [] (λ tables. or_else tables []) (λ c f. of_names (asks c) names 1 f) command folds assumption)
+
+  goal_asked : (command : LogCommand) (folds : Bool)
+      → AsksFor (name_of command ∷ with_fold folds (codes "--goal" ∷ codes "last" ∷ log_words names)) (of_names_for Last (asks command) names 1 folds)
+  unfolding clap_on_literals
+  goal_asked command folds = rw append-nil at (each_comes (flag (codes "--goal") ∷ flag (codes "last") ∷ []) [] (λ tables. or_else tables [])
+      (λ c f. of_names_for Last (asks c) names 1 f) command folds assumption)
 
   module _ (number : Text) (is : IsPlain number) where
     workers_first : (command : LogCommand) (folds : Bool)
@@ -171,6 +178,7 @@ names_log command = record {
   workers_last = λ names folds number n. (workers_last names number n command folds).0;
   other_workers_last = λ names folds number n. (workers_last names number n command folds).1;
   fold_last = λ names. fold_asked names command;
+  goal_last = λ names folds. goal_asked names command folds;
   fold_twice = λ words. mistaken _ kind.ArgumentConflict [] (folded_twice command words) (λ e. cc) (λ e. cc);
 }
 

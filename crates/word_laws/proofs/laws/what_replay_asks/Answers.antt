@@ -12,5 +12,7 @@ returns c = record {
   nothing = (refl, refl);
   alone = (refl, refl);
   file = λ name plain. (simp dashless, simp dashless);
+  goal = λ name plain. (simp dashless, simp dashless);
+  other_goal = λ goal plain none. mistaken _ kind.ValueValidation [] (simp (dashless, none)) (λ e. cc) (λ e. cc);
   workers = λ number. mistaken _ kind.UnknownArgument [] refl (λ e. cc) (λ e. cc);
 }
