@@ -661,6 +661,25 @@ for words in '--budget 1' '--budget 1 --fold' '--workers 7 --budget=1'; do
         'refused K1 of 3 2 1 0 ; LURDLU' 'optimal 0 of 0 1 2 3 ;' 'bound 1 of 1 0 2 3' 'bound 4 of 3 2 1 0' : $words
 done
 proves true_claims one_set F12 0 "${true_answers[@]}" : --budget 1000000000000
+proves true_claims one_set F12 0 "${true_answers[@]}" : --goal first
+
+# Where the blank is last at home, each answer says so: boards and moves are those above, turned by half a turn.
+printf '%s\n' '0 3 2 1' '0 3 2 1 : 6' '0 3 2 1 ; DR ULDR' '0 3 2 1;RDLURD' '1 2 3 0 ;' '1 2 3 0' '1 2 0 3 : 1' '0 3 2 1 : 6 part 0/1' \
+    >true_last
+printf '%s\n' '0 3 2 1 : 7' '0 3 2 1 ; DRULDRLR' '1 2 0 3 ; LR' '1 2 0 3 ; UDRLR' '0 3 2 1 ; D' '0 1 2 3' '0 1 2 3 ; D' \
+    '0 3 2 1 : 7 part 0/1' >false_last
+last=' with the blank last'
+for words in '--goal last' '--goal last --workers 7' '--fold --goal last'; do
+    # shellcheck disable=SC2086
+    proves true_last one_set F12 0 "optimal 6 of 0 3 2 1 ; DRULDR$last" "bound 6 of 0 3 2 1$last" "optimal 6 of 0 3 2 1 ; DRULDR$last" \
+        "optimal 6 of 0 3 2 1 ; RDLURD$last" "optimal 0 of 1 2 3 0 ;$last" "optimal 0 of 1 2 3 0 ;$last" "bound 1 of 1 2 0 3$last" \
+        "part 0/1 of bound 6 of 0 3 2 1$last" : $words
+    # shellcheck disable=SC2086
+    proves false_last one_set F12 1 "refused O2 by DRULDR of 0 3 2 1 : 7$last" "refused O2 by DRULDR of 0 3 2 1 ; DRULDRLR$last" \
+        "refused M2 at step 0 of 1 2 0 3 ; LR$last" "refused O2 by R of 1 2 0 3 ; UDRLR$last" "refused M4 of 0 3 2 1 ; D$last" \
+        "refused K2 of 0 1 2 3$last" "refused M4 of 0 1 2 3 ; D$last" "refused O2 by DRULDR of 0 3 2 1 : 7 part 0/1$last" : $words
+done
+proves true_last one_set F24 1 'refused Q2 at line 0' : --goal last
 
 # The first line that is no claim comes before faults of tables and sets: no_claim LINE TEXT
 no_claim() {
@@ -1078,11 +1097,14 @@ check 'a table is told while it is made and while it is checked' told_kinds \
     'made, N of N: N percent of N blocks or lemmas begun'
 rm made tiles_1_to_4 tiles_5_to_8 sets board_of_3
 
-# Each search of a claim tells its pace, and no shares. Before it comes where the blank is at home: on side 3 a board has a solution
-# with the blank last where it has one with the blank first.
+# Before the paces of a search of a claim comes where the blank is at home: on side 3 a board has a solution with the blank last where it
+# has one with the blank first. Each search tells its pace, and no shares. In the end the claim is told, and all of them.
 told_paces_alone() {
-    [ "$(head -n 1 "$work/errors")" = "$blank_first" ] && tail -n +2 "$work/errors" >"$work/paces" && [ -s "$work/paces" ] &&
-        ! grep -Evqx 'pdb_cli: claim 0, below [0-9]+: [0-9]+ boards, [0-9]+ a second' "$work/paces"
+    [ "$(head -n 1 "$work/errors")" = "$blank_first" ] && tail -n +2 "$work/errors" >"$work/paces" &&
+        grep -Eqx 'pdb_cli: claim 0, below [0-9]+: [0-9]+ boards, [0-9]+ a second' "$work/paces" &&
+        ! head -n -2 "$work/paces" | grep -Evqx 'pdb_cli: claim 0, below [0-9]+: [0-9]+ boards, [0-9]+ a second' &&
+        tail -n 2 "$work/paces" | head -n 1 | grep -Eqx 'pdb_cli: claim 0: [0-9]+ boards in [0-9]+\.[0-9] seconds, [0-9]+ a second' &&
+        [ "$(tail -n 1 "$work/paces")" = 'pdb_cli: 1 claim: 1 bound' ]
 }
 echo '8 0 6 5 4 7 2 3 1 : 29' >claims
 run prove claims one_set three_of_side_3
@@ -1095,6 +1117,9 @@ for workers in 1 4; do
     check "progress of $workers workers leaves the answer to a claim" same_line_and_status
     check "$workers workers tell paces alone" told_paces_alone
 done
+status=0
+PDB_PROGRESS=1 "$bare" prove false_claims one_set F12 >"$work/output" 2>"$work/errors" || status=$?
+check 'how many claims were answered how' [ "$status.$(tail -n 1 "$work/errors")" = '1.pdb_cli: 13 claims: 1 bound, 12 refused' ]
 
 #
 # Changed inputs.

@@ -6,9 +6,9 @@ use byte_io::watched::Watched;
 use pdb_early::{Look, fault_ahead, may_be_last, takes_long};
 use pdb_program::{ArgumentFault, ProgramCall, ReadArguments, RunHost, start};
 use pdb_progress::{Watch, checked_files, is_asked_for};
-use pdb_reason::{Beginning, Reason};
+use pdb_reason::{Beginning, Reason, Summary};
 use pdb_request::Request;
-use pdb_run::Cause;
+use pdb_run::{Beside, Cause};
 use pdb_verdict::Fault;
 use std::alloc::Global;
 use std::env::Env;
@@ -61,12 +61,15 @@ fn tell_reason<'n>(
     rt: &HostRuntime,
     asked: &Request<'n>,
     why: Cause<'n, Fault>,
+    beside: Beside,
     is_ahead: bool,
 ) -> io::Result<()> {
     let Some(reason) = Reason::of(asked, why) else {
         return Ok(());
     };
-    let reason = reason.on_shelf(asked, &DiskShelf::new(rt));
+    let reason = reason
+        .on_shelf(asked, &DiskShelf::new(rt))
+        .beside(beside);
     let beginning = match reason.name() {
         None => Beginning::OfAny,
         Some(name) => beginning_of(rt, name).unwrap_or(Beginning::OfAny),
@@ -125,7 +128,7 @@ fn main(rt: HostRuntime) -> ExitCode {
         && let Some(fault) = fault_before(&rt, rt.alloc(), asked)
     {
         // The run goes on, whether this is told or not.
-        let _ = tell_reason(&rt, asked, Cause::Refused(fault), true);
+        let _ = tell_reason(&rt, asked, Cause::Refused(fault), Beside::Nothing, true);
     }
     if let Some(asked) = asked {
         tell_goal(&rt, asked);
@@ -140,9 +143,15 @@ fn main(rt: HostRuntime) -> ExitCode {
         arguments: read.as_ref().map_err(|fault| *fault),
     };
     let ended = start(call, &mut shelf, &mut reader, &mut out, &mut err);
+    gate.ends_claim();
     if let (Some(asked), Some(why)) = (asked, ended.why) {
         // Nobody is left to be told that standard error failed.
-        let _ = tell_reason(&rt, asked, why, false);
+        let _ = tell_reason(&rt, asked, why, ended.beside, false);
+    }
+    if let Beside::Tally(tally) = ended.beside
+        && is_asked_for(&rt)
+    {
+        let _ = rt.eprintln(Summary(tally));
     }
     ExitCode::from(ended.status.code())
 }

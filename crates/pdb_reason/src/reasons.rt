@@ -1,12 +1,13 @@
 //! Why a run ended without a yes.
 
 use crate::beginnings::Beginning;
+use crate::besides::write_spot;
 use crate::outs::spared_text;
 use crate::texts::{ended_below, write_cause};
 use byte_io::shelf::Shelf;
 use pdb_progress::ShownName;
 use pdb_request::Request;
-use pdb_run::Cause;
+use pdb_run::{Beside, Cause, Spot};
 use pdb_verdict::Fault;
 use puz_board::MoveFault;
 use puz_goal::Goal;
@@ -52,6 +53,8 @@ pub struct Reason<'a> {
     name: Named<'a>,
     /// Why nothing is kept, where what is there is spared.
     spared: Option<&'static str>,
+    /// Where the line that is refused goes wrong, where that is known.
+    spot: Option<Spot>,
     beginning: Beginning,
     /// Where the blank was taken to be at home.
     goal: Goal,
@@ -66,6 +69,7 @@ impl<'a> Reason<'a> {
             why,
             name: named_for(asked, why)?,
             spared: None,
+            spot: None,
             beginning: Beginning::OfAny,
             goal: asked.goal(),
             is_ahead: false,
@@ -90,6 +94,15 @@ impl<'a> Reason<'a> {
             },
             _ => self,
         }
+    }
+
+    /// The same, of a run of which this is told besides.
+    pub fn beside(self, beside: Beside) -> Reason<'a> {
+        let spot = match beside {
+            Beside::Spot(spot) => Some(spot),
+            Beside::Nothing | Beside::Tally(_) => None,
+        };
+        Reason { spot, ..self }
     }
 
     /// The same, where that file begins so. What is said of that is left out where it is no surprise.
@@ -161,6 +174,9 @@ impl Display for Reason<'_> {
         match self.own_text() {
             Some(text) => f.write_str(text)?,
             None => write_cause(f, &self.why)?,
+        }
+        if let Some(spot) = self.spot {
+            write_spot(f, spot)?;
         }
         f.write_str(self.beginning.text())
     }
