@@ -110,6 +110,36 @@ expect 'replay of bytes that are no text' 1 'refused P1' : replay puzzle
 printf '0 1 2 \xff ;' >puzzle
 expect 'replay of numbers that are no text' 1 'refused B1 at byte 6' : replay puzzle
 
+# The blank last at home. The board 0 3 2 1 and the moves DRULDR are 3 2 1 0 and ULDRUL turned by half a turn.
+echo '0 3 2 1 ; DRULDR' >six_moves_last
+# last MOVES STATUS LINE: of the board 1 2 3 4 0 6 7 5 8, which is two moves from home
+last() {
+    echo "1 2 3 4 0 6 7 5 8 ; $1" >puzzle
+    expect "replay of $1 with the blank last" "$2" "$3" : replay --goal last puzzle
+}
+last DR 0 'solution 2 with the blank last'
+last 'DU D R' 0 'solution 4 with the blank last'
+last UL 1 'refused M4'
+last DDR 1 'refused M2 at step 1'
+last 'D r' 1 'refused M1 at byte 3'
+last "$back_and_forth" 1 'refused M4'
+last "DR$back_and_forth" 1 'refused M2 at step 2'
+last "DU${back_and_forth}" 1 'refused M3'
+expect 'replay with the blank last' 0 'solution 6 with the blank last' : replay six_moves_last --goal=last
+expect 'the same with the blank first' 1 'refused M4' : replay six_moves_last
+expect 'replay with the blank first, by the flag' 0 'solution 6' : replay --goal first solved
+expect 'the home of the one is not that of the other' 1 'refused M4' : replay --goal last solved
+input=six_moves_last
+expect 'replay of the input with the blank last' 0 'solution 6 with the blank last' : replay --goal last
+input=/dev/null
+for words in 'replay --goal' 'replay --goal middle p' 'replay --goal= p' 'replay --goal Last p' 'replay --goal last --goal last p' \
+    'table --goal last t' 'make-table --goal last 2 6 o' 'bound --goal x b s l t' 'optimal --goal 0 p s l t' 'solve --goal x b s o t' \
+    'prove --goal x c s t' 'parts --goal x b 6 3 a' '--goal last'; do
+    # shellcheck disable=SC2086
+    run $words
+    check "wrong words: $words" told_a_mistake
+done
+
 #
 # Names of files.
 #
@@ -427,6 +457,12 @@ echo '3 0 1 2' >another_board
 echo '1 0 2 3' >next_board
 either_way 1 'refused L5' F123 leaf : bound another_board one_set leaf F123
 either_way 0 'optimal 6' F12 branches : optimal six_moves one_set branches F12
+echo '0 3 2 1' >board_last
+either_way 0 'bound 6 with the blank last' F12 branches : bound --goal last board_last one_set branches F12
+either_way 0 'optimal 6 with the blank last' F12 branches : optimal --goal last six_moves_last one_set branches F12
+either_way 1 'refused L5' F12 branches : bound --goal last board one_set branches F12
+either_way 1 'refused L5' F12 branches : bound board_last one_set branches F12
+either_way 1 'refused M4' F12 branches : optimal --goal last six_moves one_set branches F12
 echo '3 2 1 0 ; ULDRULRL' >eight_moves
 either_way 1 'refused O1 solution 8 bound 6' F12 branches : optimal eight_moves one_set branches F12
 either_way 1 'refused T7 at entry 14 of table 0' F123_with_02 leaf : bound board one_set leaf F123_with_02
@@ -607,6 +643,16 @@ proves_each_way false_claims one_set F12 1 'refused O2 by ULDRUL of 3 2 1 0 : 7'
     'refused O2 by L of 1 0 2 3 ; DULRL' 'refused O2 by L of 1 0 2 3 : 2' 'refused M2 at step 0 of 3 2 1 0 ; R' \
     'refused M2 at step 2 of 3 2 1 0 ; ULU' 'refused M4 of 3 2 1 0 ; U' 'refused M4 of 3 2 1 0 ;' 'refused K2 of 0 1 3 2' \
     'refused K2 of 0 1 3 2 : 0' 'refused M4 of 0 1 3 2 ; R'
+# The same with the blank last, of the boards and moves turned by half a turn.
+printf '%s\n' '0 3 2 1' '0 3 2 1 : 6' '0 3 2 1;DR ULDR' '1 2 3 0' '1 2 3 0 : 0' >true_claims_last
+proves true_claims_last one_set F12 0 'optimal 6 of 0 3 2 1 ; DRULDR with the blank last' 'bound 6 of 0 3 2 1 with the blank last' \
+    'optimal 6 of 0 3 2 1 ; DRULDR with the blank last' 'optimal 0 of 1 2 3 0 ; with the blank last' \
+    'bound 0 of 1 2 3 0 with the blank last' : --goal last
+printf '%s\n' '0 3 2 1 : 7' '0 3 2 1 ; DRULDRLR' '1 2 0 3 ; LR' '0 3 2 1 ; D' '0 1 2 3' '0 3 2 1 : 6' >false_claims_last
+proves false_claims_last one_set F12 1 'refused O2 by DRULDR of 0 3 2 1 : 7 with the blank last' \
+    'refused O2 by DRULDR of 0 3 2 1 ; DRULDRLR with the blank last' 'refused M2 at step 0 of 1 2 0 3 ; LR with the blank last' \
+    'refused M4 of 0 3 2 1 ; D with the blank last' 'refused K2 of 0 1 2 3 with the blank last' \
+    'bound 6 of 0 3 2 1 with the blank last' : --goal last --workers 2
 # No board is expanded for a claim of which the sets say enough, or whose board is the goal board.
 printf '%s\n' '3 2 1 0' '3 2 1 0 : 6' '3 2 1 0 ; LURDLU' '0 1 2 3' '1 0 2 3 : 1' '3 2 1 0 : 4' >claims_of_few_boards
 for words in '--budget 1' '--budget 1 --fold' '--workers 7 --budget=1'; do
@@ -1141,6 +1187,11 @@ status=0
 check 'a search names the files that are checked' [ "$status.$(tail -n 1 "$work/output")" = '0.optimal 20' ]
 check 'each with its number' told_files 'tiles_1_to_4, 1 of 3' 'tiles_5_to_8, 2 of 3'
 check 'and tells how fast it goes' grep -Eqx 'pdb_cli: below [0-9]+: [0-9]+ boards, [0-9]+ a second' "$work/errors"
+blank_first='pdb_cli: home has the blank first: --goal last has it last'
+check 'and first where the blank is at home' [ "$(head -n 1 "$work/errors")" = "$blank_first" ]
+status=0
+(export PDB_PROGRESS=1 && exec "$bare" replay solved) >"$work/output" 2>"$work/errors" || status=$?
+check 'not of a board of side 2 that has a solution' [ "$status.$(cat "$work/output" "$work/errors")" = '0.solution 6' ]
 status=0
 (export PDB_PROGRESS=1 LD_PRELOAD=$work/step_clock.so && exec "$bare" make-table 3 510 made --replace) \
     >"$work/output" 2>"$work/errors" || status=$?
@@ -1149,12 +1200,14 @@ check 'a table is told while it is made and while it is checked' told_kinds \
     'made, N of N: N percent of N blocks or lemmas begun'
 rm made tiles_1_to_4 tiles_5_to_8 sets board_of_3
 
-# Each search of a claim tells its pace, and no shares. In the end the claim is told, and all of them.
+# Before the paces of a search of a claim comes where the blank is at home: on side 3 a board has a solution with the blank last where it
+# has one with the blank first. Each search tells its pace, and no shares. In the end the claim is told, and all of them.
 told_paces_alone() {
-    grep -Eqx 'pdb_cli: claim 0, below [0-9]+: [0-9]+ boards, [0-9]+ a second' "$work/errors" &&
-        ! head -n -2 "$work/errors" | grep -Evqx 'pdb_cli: claim 0, below [0-9]+: [0-9]+ boards, [0-9]+ a second' &&
-        tail -n 2 "$work/errors" | head -n 1 | grep -Eqx 'pdb_cli: claim 0: [0-9]+ boards in [0-9]+\.[0-9] seconds, [0-9]+ a second' &&
-        [ "$(tail -n 1 "$work/errors")" = 'pdb_cli: 1 claim: 1 bound' ]
+    [ "$(head -n 1 "$work/errors")" = "$blank_first" ] && tail -n +2 "$work/errors" >"$work/paces" &&
+        grep -Eqx 'pdb_cli: claim 0, below [0-9]+: [0-9]+ boards, [0-9]+ a second' "$work/paces" &&
+        ! head -n -2 "$work/paces" | grep -Evqx 'pdb_cli: claim 0, below [0-9]+: [0-9]+ boards, [0-9]+ a second' &&
+        tail -n 2 "$work/paces" | head -n 1 | grep -Eqx 'pdb_cli: claim 0: [0-9]+ boards in [0-9]+\.[0-9] seconds, [0-9]+ a second' &&
+        [ "$(tail -n 1 "$work/paces")" = 'pdb_cli: 1 claim: 1 bound' ]
 }
 echo '8 0 6 5 4 7 2 3 1 : 29' >claims
 run prove claims one_set three_of_side_3
@@ -1315,6 +1368,17 @@ for workers in 1 2 7; do
     solved board 6 one_set F12 --fold --workers "$workers"
 done
 check 'the same log over folded tables' cmp -s by_parity made
+rm -f made
+digest=$(sha256sum <F12)
+log_digest=$(sha256sum <by_parity)
+expect 'solve with the blank last' 0 "sha256 ${digest%% *}" "sha256 ${log_digest%% *}" 'moves DRULDR with the blank last' \
+    'optimal 6 with the blank last' : solve --goal last board_last one_set made F12
+check 'its log is that of the turned board' cmp -s by_parity made
+either_way 0 'bound 6 with the blank last' F12 made : bound --goal last board_last one_set made F12
+either_way 0 'optimal 6' F12 made : optimal six_moves one_set made F12
+echo '1 2 3 0' >home_last
+run solve --goal last home_last one_set made F123
+check 'solve of home with the blank last' [ "$(tail -n 2 "$work/output")" = $'moves with the blank last\noptimal 0 with the blank last' ]
 solved board 6 pair 'F12 F3' --fold
 solved board 6 mirror F12 --fold
 rm -f made

@@ -133,7 +133,7 @@ words-no_lf (shorter solution claim) what =
     (join_no_lf (codes "refused O2 by") (spaced_letters solution) (known (codes "refused O2 by") refl) (spaced-no_lf solution)) (claim-no_lf claim)
 words-no_lf (refused what claim) none = of_no_lf what (claim_words claim) none (claim-no_lf claim)
 
-goal-no_lf : (goal : Goal) → HasNo 10 (goal_words goal)
+pub goal-no_lf : (goal : Goal) → HasNo 10 (goal_words goal)
 goal-no_lf First = All-nil (λ b. not (eqb b 10) ≡ true)
 goal-no_lf Last = known (goal_words Last) refl
 

@@ -1,6 +1,6 @@
 //! The lines that answer claims, as values.
 
-ghost use Rattle.std.specs.Prelude.{◌≡◌, ◌+◌, ◌≤◌, ◌++◌, codes, decimal, length};
+ghost use Rattle.std.specs.Prelude.{◌≡◌, ◌+◌, ◌≤◌, ◌++◌, [], codes, decimal, length};
 ghost use Rattle.arrayvec.specs.ArrayString.{array_string_len};
 ghost use Rattle.puz_goal.specs.Goals.{goal_words};
 ghost use Rattle.claim_text.specs.Claims.{letters, part_words};
@@ -55,12 +55,20 @@ pub fn joined_line(goal: Goal, bound: u8, count: u16, board: &Board) -> Line
     line.push_str(" from ");
     line.push_str(Buffer::new().format(count));
     line.push_str(" parts, by lines that were read");
-    match goal {
-        Goal::First => {}
-        Goal::Last => line.push_str(", with the blank last"),
-    }
+    line.push_str(joined_goal(goal));
     line.push_str("\n");
     line
+}
+
+/// What such a line ends with for a goal.
+fn joined_goal(goal: Goal) -> &'static str
+    ensures words { result.now ≡ joined_goal goal }
+    ensures short { length result.now ≤ 21 }
+{
+    match goal {
+        Goal::First => "",
+        Goal::Last => ", with the blank last",
+    }
 }
 
 /// The line that says that a part of a bound of a board holds: `part 0/3 of bound 6 of 3 2 1 0`.

@@ -3,7 +3,7 @@
 
 use byte_io::disk::DiskShelf;
 use byte_io::watched::Watched;
-use pdb_early::{Look, fault_ahead, takes_long};
+use pdb_early::{Look, fault_ahead, may_be_last, takes_long};
 use pdb_program::{ArgumentFault, ProgramCall, ReadArguments, RunHost, start};
 use pdb_progress::{Watch, checked_files, is_asked_for};
 use pdb_reason::{Beginning, Reason, Summary};
@@ -87,6 +87,21 @@ fn fault_before<R: Files>(rt: &R, alloc: Global, asked: &Request<'_>) -> Option<
     fault_ahead(&Look { alloc, files: rt }, asked)
 }
 
+/// What is said of a board that may be meant to have the blank last at home, where progress is told.
+const BLANK_FIRST: &str = "pdb_cli: home has the blank first: --goal last has it last";
+
+/// Tells where the blank is at home, where that may be missed.
+#[inline(never)] // so that the stack hasn't its values while the run is on
+fn tell_goal(rt: &HostRuntime, asked: &Request<'_>) {
+    let look = Look {
+        alloc: rt.alloc(),
+        files: rt,
+    };
+    if is_asked_for(rt) && may_be_last(&look, asked) {
+        let _ = rt.eprintln(BLANK_FIRST);
+    }
+}
+
 /// The files that the run checks, in order, where they are to be told and can be.
 fn files_to_tell<'a>(rt: &HostRuntime, asked: Option<&Request<'a>>) -> Vec<&'a str> {
     let none = Vec::new(rt.alloc());
@@ -114,6 +129,9 @@ fn main(rt: HostRuntime) -> ExitCode {
     {
         // The run goes on, whether this is told or not.
         let _ = tell_reason(&rt, asked, Cause::Refused(fault), Beside::Nothing, true);
+    }
+    if let Some(asked) = asked {
+        tell_goal(&rt, asked);
     }
     let gate = Watch::asked_for(&rt, files_to_tell(&rt, asked));
     let call = ProgramCall {

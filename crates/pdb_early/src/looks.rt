@@ -70,6 +70,36 @@ pub fn fault_ahead<R: Files>(look: &Look<'_, R>, asked: &Request<'_>) -> Option<
     }
 }
 
+/// Whether a run that has the blank first at home reads a board from a file that has a solution with the blank last. Of claims the first
+/// board counts.
+pub fn may_be_last<R: Files>(look: &Look<'_, R>, asked: &Request<'_>) -> bool {
+    let first = || {
+        let front = look.front(board_file(asked)?)?;
+        let text = match asked {
+            Request::Prove(_) => front.bytes().split(|byte| *byte == b'\n').next()?,
+            _ => front.whole()?,
+        };
+        let text = text.split(|byte| *byte == b';' || *byte == b':').next()?;
+        Board::read(text).ok()
+    };
+    match first() {
+        Some(board) => asked.goal() == Goal::First && is_solvable(&Goal::Last.board_for(&board)),
+        None => false,
+    }
+}
+
+/// The file of the text that has a board.
+fn board_file<'n>(asked: &Request<'n>) -> Option<&'n str> {
+    match asked {
+        Request::Replay(replay) => replay.puzzle,
+        Request::LogCheck(check) => Some(check.text),
+        Request::Solve(search) => Some(search.board),
+        Request::Prove(prove) => prove.claims,
+        Request::JoinParts(parts) => parts.board,
+        Request::TableCheck(_) | Request::MakeTable(_) => None,
+    }
+}
+
 /// Of `bound` and `optimal`.
 fn log_check_fault<R: Files>(look: &Look<'_, R>, check: &LogCheck<&str>) -> Option<Fault> {
     let board = look.board(check.goal, check.claim, check.text)?;

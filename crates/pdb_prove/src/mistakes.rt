@@ -3,7 +3,7 @@
 use crate::mistakes_behind::{bound_spot, moves_spot};
 use crate::words_of_lines::{is_separator, word_at};
 use claim_text::{ClaimsFault, MOST_CLAIMS};
-use pdb_run::{Beside, Spot};
+use pdb_run::{Beside, Mistake, Spot};
 use puz_board::{Board, BoardFault};
 
 /// What the lines of answers begin with.
@@ -27,7 +27,7 @@ pub(crate) fn beside_fault(text: &[u8], fault: ClaimsFault) -> Beside {
     match fault {
         ClaimsFault::Memory => Beside::Nothing,
         ClaimsFault::Q1 { line } if line >= MOST_CLAIMS => {
-            Beside::Spot(spot(0, "a text has at most 1,048,576 claims"))
+            Beside::Spot(spot(0, Mistake::ManyClaims))
         }
         ClaimsFault::Q1 { line } => {
             let found = text.split(|byte| *byte == b'\n').nth(line as usize);
@@ -37,11 +37,10 @@ pub(crate) fn beside_fault(text: &[u8], fault: ClaimsFault) -> Beside {
 }
 
 /// This is wrong from a place of a line on.
-pub(crate) fn spot(place: usize, what: &'static str) -> Spot {
+pub(crate) fn spot(place: usize, what: Mistake) -> Spot {
     Spot {
         column: place.saturating_add(1),
         what,
-        number: None,
     }
 }
 
@@ -74,15 +73,15 @@ fn spot_in(line: &[u8]) -> Option<Spot> {
 }
 
 /// What is wrong with a line as a whole.
-fn whole_line_text(line: &[u8]) -> Option<&'static str> {
+fn whole_line_text(line: &[u8]) -> Option<Mistake> {
     if line.iter().all(|byte| is_separator(*byte)) {
-        Some("the line is empty")
+        Some(Mistake::EmptyLine)
     } else if line.starts_with(b"#") {
-        Some("a line that begins with `#` is no comment here")
+        Some(Mistake::Comment)
     } else if line.starts_with(b"\xef\xbb\xbf") {
-        Some("a byte order mark stands before the claim")
+        Some(Mistake::ByteOrderMark)
     } else if ANSWERS.iter().any(|front| line.starts_with(*front)) {
-        Some("it is an answer: its claim is what stands behind `of`")
+        Some(Mistake::Answer)
     } else {
         None
     }
@@ -96,11 +95,11 @@ fn board_spot(board: &[u8]) -> Option<Spot> {
             let byte = board.get(place).copied().unwrap_or(0);
             Some(spot(place, stray_text(byte)))
         }
-        Err(BoardFault::B2(place)) => Some(spot(place, "three or more digits stand in a row")),
+        Err(BoardFault::B2(place)) => Some(spot(place, Mistake::LongNumber)),
         Err(BoardFault::B3(count)) => Some(count_spot(board, count)),
         Err(BoardFault::B4(index)) => Some(great_spot(board, usize::from(index))),
         Err(BoardFault::B5(index)) => {
-            Some(spot(place_of(board, usize::from(index)), "this number stands there twice"))
+            Some(spot(place_of(board, usize::from(index)), Mistake::RepeatedNumber))
         }
     }
 }
@@ -116,16 +115,13 @@ fn count_spot(board: &[u8], count: usize) -> Spot {
     let last = place_of(board, count.saturating_sub(1));
     let second = place_of(board, 1);
     if count == 0 {
-        spot(0, "no board stands before it")
+        spot(0, Mistake::NoBoard)
     } else if is_board(board.get(second..)) {
-        spot(first, "a number stands before the board")
+        spot(first, Mistake::NumberBeforeBoard)
     } else if is_board(board.get(..last)) {
-        spot(last, "a bound stands behind a `:`")
+        spot(last, Mistake::BoundAfterBoard)
     } else {
-        Spot {
-            number: Some(count),
-            ..spot(first, "a board has 4, 9, 16 or 25 numbers, and not ")
-        }
+        spot(first, Mistake::NumberCount(count))
     }
 }
 
@@ -140,26 +136,26 @@ fn great_spot(board: &[u8], index: usize) -> Spot {
         .filter_map(|number| word_at(board, number))
         .any(|word| word.bytes == b"0" || word.bytes == b"00");
     let what = if has_blank {
-        "the number is too great for so many cells"
+        Mistake::GreatNumber
     } else {
-        "the numbers begin with 0, which is the blank"
+        Mistake::NoBlank
     };
     spot(place_of(board, index), what)
 }
 
 /// What is wrong with a byte of a board that is neither a digit nor a separator.
-fn stray_text(byte: u8) -> &'static str {
+fn stray_text(byte: u8) -> Mistake {
     match byte {
-        b',' | b'/' | b'|' => "numbers are parted by spaces alone",
-        b'-' | b'+' => "numbers have no sign",
-        b'.' | b'_' | b'*' | b'x' | b'X' => "the blank is written 0",
+        b',' | b'/' | b'|' => Mistake::NumbersParted,
+        b'-' | b'+' => Mistake::SignedNumber,
+        b'.' | b'_' | b'*' | b'x' | b'X' => Mistake::OtherBlank,
         b'[' | b']' | b'(' | b')' | b'{' | b'}' | b'"' | b'\'' => {
-            "brackets and quotes are left out"
+            Mistake::Brackets
         }
-        b'U' | b'D' | b'L' | b'R' => "moves stand behind a `;`",
-        b'u' | b'd' | b'l' | b'r' => "moves stand behind a `;`, as capital letters",
-        b'p' | b'<' | b'>' | b'=' => "a bound stands behind a `:`",
-        b'#' => "nothing is said behind a claim",
-        _ => "it is neither a digit nor a space",
+        b'U' | b'D' | b'L' | b'R' => Mistake::MovesAfterBoard,
+        b'u' | b'd' | b'l' | b'r' => Mistake::SmallMovesAfterBoard,
+        b'p' | b'<' | b'>' | b'=' => Mistake::BoundAfterBoard,
+        b'#' => Mistake::Remark,
+        _ => Mistake::StrayInBoard,
     }
 }

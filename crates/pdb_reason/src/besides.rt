@@ -1,16 +1,17 @@
 //! What is told besides why a run ended.
 
-use pdb_run::{Spot, Tally};
+use crate::mistakes::mistake_text;
+use pdb_run::{Mistake, Spot, Tally};
 use std::fmt;
 use std::fmt::{Display, Formatter};
 
 /// Writes where a line that is refused goes wrong.
 pub(crate) fn write_spot<W: fmt::Write>(f: &mut Formatter<W>, spot: Spot) -> fmt::Result {
-    let (column, what) = (spot.column, spot.what);
+    let (column, what) = (spot.column, mistake_text(spot.what));
     write!(f, ". At column {column}: {what}")?;
-    match spot.number {
-        Some(number) => write!(f, "{number}"),
-        None => Ok(()),
+    match spot.what {
+        Mistake::NumberCount(count) => write!(f, "{count}"),
+        _ => Ok(()),
     }
 }
 

@@ -3,6 +3,7 @@
 
 mod beginnings;
 mod besides;
+mod mistakes;
 mod outs;
 mod reasons;
 mod texts;

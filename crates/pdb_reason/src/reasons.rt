@@ -10,12 +10,16 @@ use pdb_request::Request;
 use pdb_run::{Beside, Cause, Spot};
 use pdb_verdict::Fault;
 use puz_board::MoveFault;
+use puz_goal::Goal;
 use set_sum::SetFault;
 use std::fmt;
 use std::fmt::{Display, Formatter};
 
 /// What stands before a reason that is told before the run ends.
 const AHEAD: &str = "this run can't end in a yes: ";
+
+/// What is said of moves that don't end with the blank last at home.
+const NOT_LAST: &str = "the moves don't end on the goal board, which has the blank last";
 
 /// What a sentence names.
 #[derive(Clone, Copy, Debug, PartialEq, Eq)]
@@ -52,6 +56,8 @@ pub struct Reason<'a> {
     /// Where the line that is refused goes wrong, where that is known.
     spot: Option<Spot>,
     beginning: Beginning,
+    /// Where the blank was taken to be at home.
+    goal: Goal,
     /// Whether the run has still to end.
     is_ahead: bool,
 }
@@ -65,6 +71,7 @@ impl<'a> Reason<'a> {
             spared: None,
             spot: None,
             beginning: Beginning::OfAny,
+            goal: asked.goal(),
             is_ahead: false,
         })
     }
@@ -104,11 +111,33 @@ impl<'a> Reason<'a> {
             (Subject::Run, _)
             | (Subject::Table(_), Beginning::OfTable)
             | (Subject::Log, Beginning::OfLog) => Beginning::OfAny,
-            (Subject::Goal, Beginning::OfBoardWithBlankLast) => beginning,
-            (_, Beginning::OfBoardWithBlankLast) => Beginning::OfAny,
+            (Subject::Goal, Beginning::OfBoardSolvedLast | Beginning::OfBoardWithBlankLast) => {
+                self.of_board(beginning)
+            }
+            (_, Beginning::OfBoardSolvedLast | Beginning::OfBoardWithBlankLast) => {
+                Beginning::OfAny
+            }
             _ => beginning,
         };
         Reason { beginning, ..self }
+    }
+
+    /// What is said of a board that begins so: that it has a solution with the blank last, where it was said to have none; or that its
+    /// blank stands last. Nothing where the blank was taken to be last at home.
+    fn of_board(&self, beginning: Beginning) -> Beginning {
+        match (self.goal, self.why, beginning) {
+            (Goal::Last, _, _) => Beginning::OfAny,
+            (Goal::First, Cause::Refused(Fault::K2), _) => beginning,
+            (Goal::First, _, _) => Beginning::OfBoardWithBlankLast,
+        }
+    }
+
+    /// What is said in place of the sentence of its cause: where what is there is spared, and of moves that don't end with the blank last.
+    fn own_text(&self) -> Option<&'static str> {
+        match (self.goal, self.why) {
+            (Goal::Last, Cause::Refused(Fault::Moves(MoveFault::M4))) => Some(NOT_LAST),
+            _ => self.spared,
+        }
     }
 
     /// What it speaks of.
@@ -142,7 +171,7 @@ impl Display for Reason<'_> {
             Named::LastClaim => f.write_str("the last claim: ")?,
             Named::Nothing => {}
         }
-        match self.spared {
+        match self.own_text() {
             Some(text) => f.write_str(text)?,
             None => write_cause(f, &self.why)?,
         }

@@ -2,6 +2,7 @@
 use Rattle.std.specs.Borrow.{Bor}
 use Rattle.std.specs.Prelude.{◌≡◌, ⊤, ℕ, ◌%◌, ◌≤◌, Bool, IfSome, List, [], ◌∷◌, Option, map, option_map}
 use Rattle.puz_goal.specs.declared.goals.Goal.{Goal}
+use Rattle.puz_goal.specs.declared.goals.Goal.TheVariants.{First}
 use Rattle.pdb_request.specs.declared.requests.LogClaim.{LogClaim}
 use Rattle.pdb_request.specs.declared.requests.LogClaim.TheVariants as claim
 use Rattle.pdb_request.specs.declared.requests.LogCheck.{LogCheck}
@@ -210,6 +211,16 @@ named_tables (optimal arguments) = arguments.tables
 named_tables (solve arguments) = arguments.tables
 named_tables (prove arguments) = arguments.tables
 named_tables other = []
+
+-- where the blank is at home; in the first cell where no board is read
+abbrev pub goal_asked : Asked → Goal
+goal_asked (replay arguments) = arguments.goal
+goal_asked (bound arguments) = arguments.goal
+goal_asked (optimal arguments) = arguments.goal
+goal_asked (solve arguments) = arguments.goal
+goal_asked (prove arguments) = arguments.goal
+goal_asked (parts arguments) = arguments.goal
+goal_asked other = First
 
 -- ---- which numbers a request can have
 

@@ -1,7 +1,7 @@
 //! What words ask for.
 
 ghost use Rattle.std.specs.Prelude.{◌≡◌};
-ghost use Rattle.pdb_request.specs.Asked.{file_names, named_tables, request_shown};
+ghost use Rattle.pdb_request.specs.Asked.{file_names, goal_asked, named_tables, request_shown};
 
 use puz_goal::Goal;
 use std::slice;
@@ -36,6 +36,20 @@ impl<'a> Request<'a> {
             Request::Solve(search) => search.tables.as_slice(),
             Request::Prove(prove) => prove.tables.as_slice(),
             Request::Replay(_) | Request::MakeTable(_) | Request::JoinParts(_) => &[],
+        }
+    }
+
+    /// Where the blank is at home; in the first cell where no board is read.
+    pub fn goal(&self) -> Goal
+        ensures { result ≡ goal_asked (request_shown self.now) }
+    {
+        match self {
+            Request::Replay(replay) => replay.goal,
+            Request::LogCheck(check) => check.goal,
+            Request::Solve(search) => search.goal,
+            Request::Prove(prove) => prove.goal,
+            Request::JoinParts(parts) => parts.goal,
+            Request::TableCheck(_) | Request::MakeTable(_) => Goal::First,
         }
     }
 }

@@ -4,6 +4,7 @@ ghost use Rattle.std.specs.Prelude.{◌≡◌};
 ghost use Rattle.pdb_run.specs.Ended.{HasItsStatus, status_by};
 ghost use Rattle.pdb_run.specs.Runs.{status_of_reply};
 
+use crate::mistakes::Mistake;
 use crate::statuses::Status;
 
 /// Why a run ended without a yes. `F` is the fault of what was checked or made.
@@ -29,15 +30,13 @@ pub enum Cause<'n, F> {
     Open,
 }
 
-/// Where a line of a text goes wrong.
+/// Where a line that is no claim goes wrong.
 #[derive(Clone, Copy, Debug, PartialEq, Eq)]
 pub struct Spot {
     /// The column, from 1.
     pub column: usize,
     /// What is wrong from there on.
-    pub what: &'static str,
-    /// The number with which that ends, where it does.
-    pub number: Option<usize>,
+    pub what: Mistake,
 }
 
 /// How many claims were answered how.
@@ -99,8 +98,8 @@ impl<'n, F: Copy> Ended<'n, F> {
 
     /// The same, with this to tell to people.
     pub fn telling(self, beside: Beside) -> Ended<'n, F>
-        ensures status { result.status ≡ self.status }
-        ensures why { result.why ≡ self.why }
+        ensures status { result.status ≡ self.entry.status }
+        ensures why { result.why ≡ self.entry.why }
     {
         Ended { beside, ..self }
     }

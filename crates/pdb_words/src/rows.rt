@@ -82,10 +82,7 @@ fn arg_of<'a>(alloc: Global, row: &Row<'a>) -> Arg<'a>
             .value_name("N")
             .value_parser(parser)
             .default_value(usual),
-        Kind::WordFlag(usual, value) => arg
-            .long(row.id)
-            .value_name(value)
-            .default_value(usual),
+        Kind::WordFlag(usual, value) => arg.long(row.id).value_name(value).default_value(usual),
     }
 }
 

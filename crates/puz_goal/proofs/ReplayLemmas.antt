@@ -1,12 +1,12 @@
 -- The first letters of a text tell what its moves do.
 use Rattle.std.proofs.Common.{◌≡◌, ℕ, zero, suc, ◌+◌, ◌<◌, ◌≤◌, min, Bool, true, false, cond, ltb, List, [], ◌∷◌, ◌++◌, length, map, take, get_or, Option, Some, None}
-use Rattle.std.proofs.Common.{Ok, Err, inl, inr, refl, sym, ◌∙◌, ap, ap₂, arith, not, ◌||◌, length-append}
+use Rattle.std.proofs.Common.{Err, inl, inr, refl, sym, ◌∙◌, ap, ap₂, arith, not, ◌||◌, length-append}
 use Rattle.std.proofs.lemmas.Bool.{cases_lt, cond-true, lt-ltb}
-use Rattle.std.proofs.lemmas.List.{length-map, length-take, map-append, take_all}
-use Rattle.std.proofs.lemmas.List.Elements.{filter_map-append}
+use Rattle.std.proofs.lemmas.List.{append-nil, length-map, length-take, map-append, take-append-le, take_all}
+use Rattle.std.proofs.lemmas.List.Elements.{All-append, All-cons, All-nil, filter_map-append}
 use Rattle.std.proofs.Math.Seq.{take-suc}
-use Rattle.std.specs.List.{cons_option, find, position_or_len, range_with_len}
-use Rattle.std.specs.Prelude.{is_none, option_map, position}
+use Rattle.std.specs.List.{AllPass, cons_option, find, position_or_len, range_with_len}
+use Rattle.std.specs.Prelude.{is_none, is_some}
 use Rattle.puz_board.specs.Cells.{move_of_letter}
 use Rattle.puz_board.specs.BoardTexts.{is_separator, refuse}
 use Rattle.puz_board.specs.First.{first_below}
@@ -68,7 +68,7 @@ is_stray b = not (is_letter b || is_separator b)
 
 place-turned : (text : List ℕ) → position_or_len is_stray (map turned_letter text) ≡ position_or_len is_stray text
 place-turned [] = refl
-place-turned (b ∷ text) = ap₂ (λ clean rest. cond (not (not clean)) (suc rest) 0) (clean-turned b) (place-turned text)
+place-turned (b ∷ text) = ap₂ (λ clean rest. cond (not (not clean)) (1 + rest) 0) (clean-turned b) (place-turned text)
 
 -- they stay where they are
 pub stray-turned : (text : List ℕ) → stray_letter (map turned_letter text) ≡ stray_letter text
@@ -101,3 +101,76 @@ module _ (text : List ℕ) (i : ℕ) (inside : i < length text) where
       ap (λ k. moves_of (map turned_letter (take k text))) next ∙ ap (λ t. moves_of (map turned_letter t)) (take-suc text i 0 inside) ∙
       ap moves_of (map-append turned_letter (take i text) (get_or text i 0 ∷ [])) ∙
       filter_map-append move_of_letter (map turned_letter (take i text)) (turned_letter (get_or text i 0) ∷ [])
+
+abbrev IsLetter : ℕ → Type 0
+IsLetter b = is_letter b ≡ true
+
+-- as many letters are kept as tell what the moves so far do
+pub record AreKept (text front : List ℕ) (i : ℕ) : Type 0 where
+  pub moves : moves_of front ≡ take 1001 (moves_of (map turned_letter (take i text)))
+  pub letters : AllPass is_letter front
+  pub count : length (moves_of front) ≡ length front
+
+module _ (text letters : List ℕ) (i letter : ℕ) (inside : i < length text) (is : letter ≡ turned_letter (get_or text i 0)) (kept : AreKept text letters i) where
+  abbrev so_far : List Move
+  so_far = moves_of (map turned_letter (take i text))
+
+  -- with a byte that is none, or with enough letters, they stay
+  next_moves : moves_of (map turned_letter (take (i + 1) text)) ≡ so_far ++ cons_option (move_of_letter letter) []
+  next_moves = moves_of-next text i inside ∙ ap (λ l. so_far ++ cons_option (move_of_letter l) []) (sym is)
+
+  pub kept-other : is_letter letter ≡ false → AreKept text letters (i + 1)
+  kept-other other = record {
+    moves = kept.moves ∙ ap (take 1001) (sym (next_moves ∙ none (move_of_letter letter) other));
+    letters = kept.letters;
+    count = kept.count;
+  }
+    where
+      none : (o : Option Move) → is_some o ≡ false → so_far ++ cons_option o [] ≡ so_far
+      none None e = append-nil so_far
+      none (Some m) e = cc
+
+  pub kept-full : 1001 ≤ length letters → AreKept text letters (i + 1)
+  kept-full full = record {
+    moves = kept.moves ∙ sym (ap (take 1001) next_moves ∙ take-append-le 1001 so_far (cons_option (move_of_letter letter) []) many);
+    letters = kept.letters;
+    count = kept.count;
+  }
+    where
+      many : 1001 ≤ length so_far
+      many =
+          let taken : length (moves_of letters) ≡ min 1001 (length so_far) = ap length kept.moves ∙ length-take 1001 so_far in
+          let all = kept.count in
+          omega arith
+
+  -- one more letter is kept
+  pub kept-more : is_letter letter ≡ true → length letters < 1001 → AreKept text (letters ++ letter ∷ []) (i + 1)
+  kept-more more few = go (move_of_letter letter) refl more
+    where
+      size : length so_far < 1001
+      size =
+          let taken : length (moves_of letters) ≡ min 1001 (length so_far) = ap length kept.moves ∙ length-take 1001 so_far in
+          let all = kept.count in
+          omega arith
+
+      whole : moves_of letters ≡ so_far
+      whole = kept.moves ∙ take_all 1001 so_far (let s = size in omega arith)
+
+      go : (o : Option Move) → move_of_letter letter ≡ o → is_some o ≡ true → AreKept text (letters ++ letter ∷ []) (i + 1)
+      go None e some = cc
+      go (Some m) e some =
+          let pushed : moves_of (letters ++ letter ∷ []) ≡ so_far ++ m ∷ [] =
+          filter_map-append move_of_letter letters (letter ∷ []) ∙ ap₂ (λ front o. front ++ cons_option o []) whole e in
+          let one = length-append so_far (m ∷ []) in
+          let next = next_moves ∙ ap (λ o. so_far ++ cons_option o []) e in
+          let small = size in
+          record {
+            moves = pushed ∙ sym (ap (take 1001) next ∙ take_all 1001 (so_far ++ m ∷ []) (omega arith));
+            letters = All-append IsLetter letters (letter ∷ []) kept.letters (All-cons IsLetter letter [] more (All-nil IsLetter));
+            count =
+                let all = kept.count in
+                let lettered = length-append letters (letter ∷ []) in
+                let same = ap length whole in
+                let long = ap length pushed in
+                omega arith;
+          }

@@ -1,5 +1,5 @@
 -- Solutions for a goal, and those of the turned board.
-use Rattle.std.proofs.Common.{◌≡◌, ◌≢◌, ◌↔◌, ℕ, ◌+◌, ◌-◌, ◌*◌, ◌<◌, ◌≤◌, List, length, map, inl, inr, refl, sym, ◌∙◌, ap, subst, arith}
+use Rattle.std.proofs.Common.{◌≡◌, ◌≢◌, ℕ, ◌+◌, ◌-◌, ◌*◌, ◌<◌, ◌≤◌, List, length, map, inl, inr, refl, sym, ◌∙◌, ap, subst, arith}
 use Rattle.std.proofs.lemmas.Bool.{cases_eq}
 use Rattle.std.proofs.lemmas.List.{length-map}
 use Rattle.puz_board.specs.Boards.{IsBoard, IsBoardOf, IsGoal, at, blank, side_of}
@@ -9,7 +9,7 @@ use Rattle.puz_board.specs.Paths.{IsPath, IsSolution, Leads, after}
 use Rattle.puz_board.proofs.BoardLemmas.{cells_least}
 use Rattle.puz_board.proofs.TransposeLemmas.{IsBoardOf-after}
 use Rattle.puz_goal.specs.Goals.{IsBoundedFor, IsLastGoal, IsSolutionFor, SolvesFor}
-use Rattle.puz_goal.specs.Laws.{BoardsTurn, TurningKeepsBounds, TurningKeepsSolutions}
+use Rattle.puz_goal.specs.Laws.{BoardsTurn}
 use Rattle.puz_goal.specs.Turning.{board_for, half_turned, moves_for, turned_cell, turned_letter, turned_number}
 use Rattle.puz_goal.specs.declared.goals.Goal.{Goal}
 use Rattle.puz_goal.specs.declared.goals.Goal.TheVariants.{First, Last}
@@ -51,9 +51,9 @@ module _ (n : ℕ) (b : List ℕ) (good : IsBoardOf n b) where
             let rest : n * n - (n * n - 1 - c) ≡ c + 1 = omega arith in
             at-turned n b good c inside ∙ ap (turned_number n) (home (n * n - 1 - c) here) ∙ number_some n (n * n - 1 - c) tile ∙ rest,
         let end : length (half_turned b) - 1 < n * n = omega arith in
-        let first : n * n - 1 - (length (half_turned b) - 1) ≡ 0 = omega arith in
-        at-turned n b good (length (half_turned b) - 1) end ∙ ap (λ x. turned_number n (at b x)) first ∙
-        ap (turned_number n) (home 0 (omega arith)),
+            let first : n * n - 1 - (length (half_turned b) - 1) ≡ 0 = omega arith in
+            at-turned n b good (length (half_turned b) - 1) end ∙ ap (λ x. turned_number n (at b x)) first ∙
+            ap (turned_number n) (home 0 (omega arith)),
       )
 
 -- ---- solutions

@@ -1,7 +1,6 @@
 -- Cells, boards and paths turned by half a turn.
 use Rattle.std.proofs.Common.{◌≡◌, ◌≢◌, ℕ, ◌+◌, ◌-◌, ◌*◌, ◌/◌, ◌%◌, ◌<◌, ◌≤◌, List, [], ◌∷◌, length, map, Some, inl, inr, refl, sym, ◌∙◌, ap, subst, arith}
 use Rattle.std.proofs.Common.{eqb, ne_eqb}
-use Rattle.std.specs.List.{range_with_len}
 use Rattle.std.proofs.lemmas.Bool.{cases_eq, cond-false, eqb-false}
 use Rattle.std.proofs.lemmas.List.{ext_get_or}
 use Rattle.std.proofs.lemmas.List.FromFn.{get_or-map-range_with_len, length-map-range_with_len}
@@ -139,7 +138,8 @@ module _ (n : ℕ) (b : List ℕ) (good : IsBoardOf n b) where
   some_cell : 0 < n * n
   some_cell = let l = cells_least n b good in omega arith
 
-  blank_inside : blank b < n * n
+  -- a board's blank is in a cell of it
+  pub blank_inside : blank b < n * n
   blank_inside = cell_of-below n b good 0 some_cell
 
   -- the blank of a turned board is in the turned cell of the blank

@@ -2,8 +2,6 @@
 use Rattle.std.specs.Prelude.{ℕ, ◌-◌, ◌*◌, ◌==◌, if◌then◌else◌, List, map}
 use Rattle.std.specs.List.{range_with_len}
 use Rattle.puz_board.specs.Boards.{at, side_of}
-use Rattle.puz_board.specs.Cells.{reverse_of}
-use Rattle.puz_board.specs.declared.moves.Move.{Move}
 use Rattle.puz_goal.specs.declared.goals.Goal.{Goal}
 use Rattle.puz_goal.specs.declared.goals.Goal.TheVariants.{First, Last}
 
