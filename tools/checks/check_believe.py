@@ -37,7 +37,7 @@ HEADLINE = "pdb_program::Headline::Headline"
 LOG = "pdb_verdict::Bound::IsProvedFor"
 ANSWERS = "pdb_parts::Laws::AreTrueAnswers"
 PART = "pdb_program::Headline::HoldsOfPart"
-MOST_DEFINITIONS, MOST_LINES = 90, 320
+MOST_DEFINITIONS, MOST_LINES = 95, 345
 
 WORD = re.compile(r"[^\s(){}\[\],;.]+(?:\.[^\s(){}\[\],;.]+)*")
 START = re.compile(

@@ -12,5 +12,8 @@ both : (goal : Goal) (letters : List ℕ) (n : ℕ)
     ≡ moves_line goal letters ++ counted_for goal (codes "optimal ") n
 both goal letters n = simp append_assoc
 
+-- the letters, their number and the words of the goal make both lines
 pub returns : goal.returns
-returns c = ?
+returns c = c.with_end.ensures
+    ∙ rw (c.as_str.ensures.value, c.letters_of-letters.ensures, c.format.ensures.text, c.words.ensures.words)
+    (both c.args.goal (letters_of c.args.moves.now) c.args.count)

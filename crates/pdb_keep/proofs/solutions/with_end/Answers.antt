@@ -1,4 +1,4 @@
-use Rattle.std.proofs.Common.{◌≡◌, ◌∙◌, List, ℕ, [], ◌∷◌, ◌++◌, append_assoc, codes, false, true, length}
+use Rattle.std.proofs.Common.{◌≡◌, ◌∙◌, List, ℕ, [], ◌∷◌, ◌++◌, append_assoc, codes, false, length, sym, true}
 use Rattle.std.specs.Prelude.{◌==◌}
 use Rattle.pdb_keep.specs.Solve.{moves_words}
 use Rattle.pdb_keep.proofs.solutions.with_end.Goals as goal
@@ -22,8 +22,8 @@ module _ (count words : List ℕ) where
 
 -- where there are no letters, the line has its word alone
 pub returns-then-is_empty : goal.returns-then-is_empty
-returns-then-is_empty c = c.lines-then-is_empty.ensures ∙ none_told c.args.count.now c.args.words.now c.args.letters.now ?
+returns-then-is_empty c = c.lines-then-is_empty.ensures ∙ none_told c.args.count.now c.args.words.now c.args.letters.now (sym c.is_empty.ensures ∙ c.if-is_empty.true)
 
 -- where there are letters, they are in a line behind a word and a space, and their number in the next
 pub returns-else-is_empty : goal.returns-else-is_empty
-returns-else-is_empty c = c.lines-else-is_empty.ensures ∙ some_told c.args.count.now c.args.words.now c.args.letters.now ?
+returns-else-is_empty c = c.lines-else-is_empty.ensures ∙ some_told c.args.count.now c.args.words.now c.args.letters.now (sym c.is_empty.ensures ∙ c.if-is_empty.false)
