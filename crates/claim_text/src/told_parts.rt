@@ -15,13 +15,7 @@ use puz_board::Board;
 use puz_goal::Goal;
 
 /// The index of the part of a bound of a board, in so many parts, that a line says to hold. It has its LF.
-pub fn told_index(
-    goal: Goal,
-    line: &[u8],
-    count: u16,
-    bound: u8,
-    board: &Board,
-) -> Option<u16>
+pub fn told_index(goal: Goal, line: &[u8], count: u16, bound: u8, board: &Board) -> Option<u16>
     requires { AreParts count }
     ensures some { IfSome result (λ i. (i < count)
         × (line.now ≡ told_line goal (part_bounded (part_at count i) bound board.now))) }
@@ -73,13 +67,7 @@ pub fn refused_part<'l>(
 }
 
 /// The index of the part of whose claim a text is ` of`, the claim, the goal and an LF.
-fn claimed_index(
-    goal: Goal,
-    text: &[u8],
-    count: u16,
-    bound: u8,
-    board: &Board,
-) -> Option<u16>
+fn claimed_index(goal: Goal, text: &[u8], count: u16, bound: u8, board: &Board) -> Option<u16>
     requires { AreParts count }
     ensures some { IfSome result (λ i. (i < count)
         × (text.now ≡ told_line goal (refused (codes "") (part_claim count bound board.now i)))) }

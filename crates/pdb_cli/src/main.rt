@@ -67,9 +67,7 @@ fn tell_reason<'n>(
     let Some(reason) = Reason::of(asked, why) else {
         return Ok(());
     };
-    let reason = reason
-        .on_shelf(asked, &DiskShelf::new(rt))
-        .beside(beside);
+    let reason = reason.on_shelf(asked, &DiskShelf::new(rt)).beside(beside);
     let beginning = match reason.name() {
         None => Beginning::OfAny,
         Some(name) => beginning_of(rt, name).unwrap_or(Beginning::OfAny),

@@ -57,7 +57,12 @@ pub(crate) struct Effort(pub(crate) Pace);
 
 impl Display for Effort {
     fn fmt<W: fmt::Write>(&self, f: &mut Formatter<W>) -> fmt::Result {
-        let Pace { claim, boards, millis, .. } = self.0;
+        let Pace {
+            claim,
+            boards,
+            millis,
+            ..
+        } = self.0;
         let rate = self.0.boards_a_second();
         let (seconds, tenths) = (millis / 1000, millis % 1000 / 100);
         f.write_str("pdb_cli: ")?;

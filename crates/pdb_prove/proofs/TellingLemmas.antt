@@ -1,6 +1,6 @@
 -- Lines that are told one after the other.
 use Rattle.std.proofs.Common.{◌≡◌, ◌∙◌, ◌+◌, ◌<◌, ◌≤◌, ◌&&◌, ap, ℕ, zero, suc, Bool, true, false, List, [], ◌∷◌, ◌++◌, Result, Ok, Err, IsErr, MatchResult}
-use Rattle.std.proofs.Common.{Option, Some, arith, drop, get_or, length, map, refl, slice_index_or, subst, sym, take, take-append-drop}
+use Rattle.std.proofs.Common.{IfSome, None, Option, Some, arith, drop, get_or, length, map, refl, slice_index_or, subst, sym, take, take-append-drop}
 use Rattle.std.specs.List.{All, AllZip}
 use Rattle.std.proofs.KnownBytes.{Appends-nil}
 use Rattle.std.proofs.Math.Seq.{take-length}
@@ -11,7 +11,7 @@ use Rattle.std.proofs.lemmas.List.Folds.{list_all-append}
 use Rattle.puz_goal.specs.Turning.{board_for}
 use Rattle.puz_goal.specs.declared.goals.Goal.{Goal}
 use Rattle.set_sum.specs.Bundles.{ShownBundle}
-use Rattle.puz_search.specs.Guides.{ShownGuide}
+use Rattle.puz_search.specs.Guides.{IsGuide, LeavesOutReversals, ShownGuide}
 use Rattle.claim_text.specs.Claims as claims
 use Rattle.claim_text.specs.Claims.{ShownAsks, ShownClaim}
 use Rattle.claim_text.specs.Lines.{HasFewLetters, Told, told_line}
@@ -22,7 +22,7 @@ use Rattle.byte_io.specs.declared.streams.WriteFault.{WriteFault}
 use Rattle.byte_io.proofs.Appending.{writes_behind}
 use Rattle.pdb_run.specs.Io.{IsWritten}
 use Rattle.pdb_run.specs.Runs.{World}
-use Rattle.pdb_prove.specs.Answers.{IsFoundFor, IsFoundOf, IsToldOf, are_yes, asks_for, claim_for, is_found_yes, is_yes, told_of}
+use Rattle.pdb_prove.specs.Answers.{IsFoundBy, IsFoundFor, IsFoundOf, IsToldOf, are_yes, asks_for, claim_for, is_found_yes, is_yes, told_of}
 use Rattle.pdb_prove.specs.Prove.{told_lines}
 use Rattle.pdb_prove.specs.Steps.{AreAllTold, AreCut, AreFoundSoon, IsAskedOver, IsFoundAt, IsSameAsked, IsToldTo, claims_of}
 use Rattle.pdb_prove.specs.declared.answers.Finding.{Finding}
@@ -195,6 +195,16 @@ soon_at v begun now soon place found all low there is same told =
 pub here_at : (v : ShownBundle) (asked : Asked) (p : Claim) (found : Finding) → ((other : Claim) → p ≡ get_or asked.claims.items asked.told other)
     → IsFoundFor v asked.budget (claim_for asked.goal (claim_shown p)) found → IsFoundAt asked.goal v asked.budget asked.claims.items asked.told found
 here_at v asked p found is found_for other = subst (λ (x : Claim). IsFoundFor v asked.budget (claim_for asked.goal (claim_shown x)) found) (is other) found_for
+
+-- what is found soon for a claim is found at its place
+pub soon_found : (guide : ShownGuide) (v : ShownBundle) (asked : Asked) (number : ℕ) (p : Claim) (found : Option Finding) → IsGuide guide
+    → guide.bundle ≡ v → LeavesOutReversals guide.steps → ((other : Claim) → p ≡ get_or asked.claims.items number other)
+    → IfSome found (IsFoundBy guide asked.budget (claim_for asked.goal (claim_shown p)))
+    → IfSome found (IsFoundAt asked.goal v asked.budget asked.claims.items number)
+soon_found guide v asked number p None good leads leaves_out is found_by = tt
+soon_found guide v asked number p (Some found) good leads leaves_out is found_by = λ other.
+    subst (λ (x : Claim). IsFoundFor v asked.budget (claim_for asked.goal (claim_shown x)) found) (is other)
+    (record { guide = guide; is_guide = good; leads = leads; leaves_out = leaves_out; is_found = found_by })
 
 -- claims that are the same are asked as before
 pub same_over : (v : ShownBundle) (begun now : Asked) → IsSameAsked begun now → IsAskedOver v begun → IsAskedOver v now

@@ -86,7 +86,10 @@ fn answer_alone(guide: &Guide<'_>, posed: Posed<'_>, budget: u64) -> Finding
     ensures { IsFoundBy guide.now budget (claim_of posed.entry) result }
 {
     let Posed {
-        goal, claim, start, ..
+        goal,
+        claim,
+        start,
+        ..
     } = posed;
     match question_of(goal, claim) {
         Ok(Question::Shortest) => match shortest_alone(guide, start, budget) {
@@ -113,7 +116,10 @@ pub(crate) fn answer_by<R: Threads + Sync, G: Gate + Sync>(
     ensures { IsFoundBy guide.now budget (claim_of posed.entry) result }
 {
     let Posed {
-        goal, claim, start, ..
+        goal,
+        claim,
+        start,
+        ..
     } = posed;
     match question_of(goal, claim) {
         Ok(Question::Shortest) => {

@@ -180,7 +180,12 @@ fn line_on(goal: Goal, claim: &Claim<'_>, found: &Finding) -> Line
             optimal_line(goal, *count, &claim.board, *moves)
         }
         (_, Finding::Shortest(count, letters)) => {
-            optimal_line(goal, *count, &claim.board, turned(goal, letters.as_slice()).as_slice())
+            optimal_line(
+                goal,
+                *count,
+                &claim.board,
+                turned(goal, letters.as_slice()).as_slice(),
+            )
         }
         (_, Finding::Shorter(letters)) => {
             shorter_line(goal, turned(goal, letters.as_slice()).as_slice(), claim)

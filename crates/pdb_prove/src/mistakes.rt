@@ -49,7 +49,7 @@ fn spot_in(line: &[u8]) -> Option<Spot> {
     if FILES.iter().any(|front| line.starts_with(*front)) {
         return None;
     }
-    if let Some(what) = whole_line_text(line) {
+    if let Some(what) = whole_line_mistake(line) {
         return Some(spot(0, what));
     }
     let sign = line.iter().position(|byte| *byte == b';');
@@ -73,7 +73,7 @@ fn spot_in(line: &[u8]) -> Option<Spot> {
 }
 
 /// What is wrong with a line as a whole.
-fn whole_line_text(line: &[u8]) -> Option<Mistake> {
+fn whole_line_mistake(line: &[u8]) -> Option<Mistake> {
     if line.iter().all(|byte| is_separator(*byte)) {
         Some(Mistake::EmptyLine)
     } else if line.starts_with(b"#") {
@@ -93,7 +93,7 @@ fn board_spot(board: &[u8]) -> Option<Spot> {
         Ok(_) => None,
         Err(BoardFault::B1(place)) => {
             let byte = board.get(place).copied().unwrap_or(0);
-            Some(spot(place, stray_text(byte)))
+            Some(spot(place, stray_in_board(byte)))
         }
         Err(BoardFault::B2(place)) => Some(spot(place, Mistake::LongNumber)),
         Err(BoardFault::B3(count)) => Some(count_spot(board, count)),
@@ -134,7 +134,7 @@ fn is_board(text: Option<&[u8]>) -> bool {
 fn great_spot(board: &[u8], index: usize) -> Spot {
     let has_blank = (0..25_usize)
         .filter_map(|number| word_at(board, number))
-        .any(|word| word.bytes == b"0" || word.bytes == b"00");
+        .any(|word| word.bytes == b"0".as_slice() || word.bytes == b"00".as_slice());
     let what = if has_blank {
         Mistake::GreatNumber
     } else {
@@ -144,14 +144,12 @@ fn great_spot(board: &[u8], index: usize) -> Spot {
 }
 
 /// What is wrong with a byte of a board that is neither a digit nor a separator.
-fn stray_text(byte: u8) -> Mistake {
+fn stray_in_board(byte: u8) -> Mistake {
     match byte {
         b',' | b'/' | b'|' => Mistake::NumbersParted,
         b'-' | b'+' => Mistake::SignedNumber,
         b'.' | b'_' | b'*' | b'x' | b'X' => Mistake::OtherBlank,
-        b'[' | b']' | b'(' | b')' | b'{' | b'}' | b'"' | b'\'' => {
-            Mistake::Brackets
-        }
+        b'[' | b']' | b'(' | b')' | b'{' | b'}' | b'"' | b'\'' => { Mistake::Brackets }
         b'U' | b'D' | b'L' | b'R' => Mistake::MovesAfterBoard,
         b'u' | b'd' | b'l' | b'r' => Mistake::SmallMovesAfterBoard,
         b'p' | b'<' | b'>' | b'=' => Mistake::BoundAfterBoard,

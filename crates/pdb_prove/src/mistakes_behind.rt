@@ -18,14 +18,14 @@ pub(crate) fn moves_spot(text: &[u8]) -> Option<Spot> {
     match stray {
         Some(place) => {
             let byte = text.get(place).copied().unwrap_or(0);
-            Some(spot(place, stray_move_text(byte)))
+            Some(spot(place, stray_move(byte)))
         }
         None => Some(spot(0, Mistake::ManyMoves)),
     }
 }
 
 /// What is wrong with a byte of moves that is neither a letter nor a separator.
-fn stray_move_text(byte: u8) -> Mistake {
+fn stray_move(byte: u8) -> Mistake {
     match byte {
         b'u' | b'd' | b'l' | b'r' => Mistake::SmallMoves,
         b'0'..=b'9' => Mistake::OtherSign,
@@ -41,17 +41,17 @@ pub(crate) fn bound_spot(text: &[u8]) -> Option<Spot> {
     let Some(bound) = word_at(text, 0) else {
         return Some(spot(0, Mistake::NoBound));
     };
-    if let Some(what) = bound_text(bound.bytes) {
+    if let Some(what) = bound_mistake(bound.bytes) {
         return Some(spot(bound.place, what));
     }
     let word = word_at(text, 1)?;
     if word.bytes != b"part".as_slice() {
-        return Some(spot(word.place, behind_bound_text(word)));
+        return Some(spot(word.place, behind_bound_mistake(word)));
     }
     let Some(part) = word_at(text, 2) else {
         return Some(spot(word.place, Mistake::NoPart));
     };
-    if let Some(what) = part_text(part.bytes) {
+    if let Some(what) = part_mistake(part.bytes) {
         return Some(spot(part.place, what));
     }
     let more = word_at(text, 3)?;
@@ -59,7 +59,7 @@ pub(crate) fn bound_spot(text: &[u8]) -> Option<Spot> {
 }
 
 /// What is wrong with a word that is no bound.
-fn bound_text(word: &[u8]) -> Option<Mistake> {
+fn bound_mistake(word: &[u8]) -> Option<Mistake> {
     if word.iter().all(|byte| is_letter(*byte)) {
         return Some(Mistake::OtherSign);
     }
@@ -68,13 +68,13 @@ fn bound_text(word: &[u8]) -> Option<Mistake> {
     }
     match number_of(word) {
         Some(0..=255) => None,
-        Some(_) => Some(Mistake::GreatBound),
-        None => Some(Mistake::ZerosBeforeBound),
+        None if word.starts_with(b"0") => Some(Mistake::ZerosBeforeBound),
+        _ => Some(Mistake::GreatBound),
     }
 }
 
 /// What is wrong with a word behind a bound.
-fn behind_bound_text(word: LineWord<'_>) -> Mistake {
+fn behind_bound_mistake(word: LineWord<'_>) -> Mistake {
     if word.bytes.iter().all(|byte| is_letter(*byte)) {
         Mistake::MovesAndBound
     } else if word.bytes.eq_ignore_ascii_case(b"part") {
@@ -86,21 +86,21 @@ fn behind_bound_text(word: LineWord<'_>) -> Mistake {
     }
 }
 
+/// The index and the count in a word of the form of a part.
+fn part_numbers(word: &[u8]) -> Option<(u64, u64)> {
+    let slash = word.iter().position(|byte| *byte == b'/')?;
+    let index = number_of(word.get(..slash)?)?;
+    let count = number_of(word.get(slash.saturating_add(1)..)?)?;
+    Some((index, count))
+}
+
 /// What is wrong with a word that is no part.
-fn part_text(word: &[u8]) -> Option<Mistake> {
-    let slash = word.iter().position(|byte| *byte == b'/');
-    let numbers = slash.and_then(|place| {
-        let index = number_of(word.get(..place)?)?;
-        let count = number_of(word.get(place.saturating_add(1)..)?)?;
-        Some((index, count))
-    });
-    match numbers {
+fn part_mistake(word: &[u8]) -> Option<Mistake> {
+    match part_numbers(word) {
         None => Some(Mistake::StrayPart),
         Some((_, count)) if count > 65_535 => Some(Mistake::ManyParts),
         Some((_, count)) if count % 2 == 0 => Some(Mistake::EvenParts),
-        Some((index, count)) if index >= count => {
-            Some(Mistake::PartOutside)
-        }
+        Some((index, count)) if index >= count => { Some(Mistake::PartOutside) }
         Some(_) => None,
     }
 }

@@ -25,7 +25,8 @@ use claim_text::{Claim, read_claims};
 use move_strings::Automaton;
 use pdb_request::Prove;
 use pdb_run::{
-    AnswerLines, Beside, Cause, Command, CommandAnswer, Digested, Ended, Input, Io, conclude, read_inputs,
+    AnswerLines, Beside, Cause, Command, CommandAnswer, Digested, Ended, Input, Io, conclude,
+    read_inputs,
 };
 use pdb_verdict::{Fault, TableFiles, a_text, given_up, over_tables, told_or_memory, with_tables};
 use set_sum::Bundle;

@@ -46,5 +46,5 @@ pub(crate) fn number_of(digits: &[u8]) -> Option<u64> {
     if !is_plain || (digits.len() > 1 && digits.starts_with(b"0")) {
         return None;
     }
-    str::from_utf8(digits).ok()?.parse().ok()
+    str::from_utf8(digits).ok()?.parse::<u64>().ok()
 }

@@ -25,19 +25,24 @@ impl Display for Summary {
         let claims = tally.claims;
         let plural = if claims == 1 { "" } else { "s" };
         write!(f, "pdb_cli: {claims} claim{plural}: ")?;
-        let kinds = [
-            (tally.optima, "optimal"),
-            (tally.bounds, "bound"),
-            (tally.parts, "part"),
-            (tally.refused, "refused"),
-        ];
-        let mut comma = "";
-        for (count, kind) in kinds {
-            if count > 0 {
-                write!(f, "{comma}{count} {kind}")?;
-                comma = ", ";
-            }
-        }
+        let comma = write_kind(f, "", tally.optima, "optimal")?;
+        let comma = write_kind(f, comma, tally.bounds, "bound")?;
+        let comma = write_kind(f, comma, tally.parts, "part")?;
+        write_kind(f, comma, tally.refused, "refused")?;
         Ok(())
     }
+}
+
+/// Writes how many answers of a kind there are, if any, behind what parts them from those before; and returns what parts the next.
+fn write_kind<'k, W: fmt::Write>(
+    f: &mut Formatter<W>,
+    comma: &'k str,
+    count: usize,
+    kind: &'k str,
+) -> Result<&'k str, fmt::Error> {
+    if count == 0 {
+        return Ok(comma);
+    }
+    write!(f, "{comma}{count} {kind}")?;
+    Ok(", ")
 }

@@ -20,8 +20,8 @@ pub use digests::{
 };
 pub use ends::{Beside, Cause, Ended, Spot, Tally};
 pub use inputs::{Unread, load_all};
-pub use mistakes::Mistake;
 pub use io::{BorrowedIo, Io};
+pub use mistakes::Mistake;
 pub use runs::{
     Keeping, NO_MEMORY, conclude, keep_and_conclude, read_inputs, read_inputs_and_try,
     say_no_memory, say_text,

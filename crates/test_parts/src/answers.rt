@@ -39,10 +39,7 @@ fn each_answer_has_its_line(rt: HostRuntime) {
     );
     let lines = [
         (told, "part 2/3 of bound 6 of 3 2 1 0\n"),
-        (
-            bound_line(Goal::First, 6, &start),
-            "bound 6 of 3 2 1 0\n",
-        ),
+        (bound_line(Goal::First, 6, &start), "bound 6 of 3 2 1 0\n"),
         (
             joined_line(Goal::First, 6, 3, &start),
             "joined bound 6 of 3 2 1 0 from 3 parts, by lines that were read\n",
