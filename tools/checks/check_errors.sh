@@ -100,11 +100,12 @@ refused B5 at number 3|b5: number 3 of the board stands there twice|parts b5 6 3
 refused B5 at number 3|standard input: number 3 of the board stands there twice|<b5 parts - 6 3 board
 refused M1 at byte 3|m1: byte 3 behind the `;` is none of U, D, L, R, space, tab and line end|replay m1
 refused M2 at step 1|m2: the move at step 1 takes the blank off the board|replay m2
-refused M2 at step 0|m2_last: the move at step 0 takes the blank off the board. The blank, 0, stands last: if it does on your goal board, docs/BOARDS.md turns it|optimal m2_last one_set leaf F123
+refused M2 at step 0|m2_last: the move at step 0 takes the blank off the board. If the blank, 0, is last on your goal board, add --goal last|optimal m2_last one_set leaf F123
 refused M2 at step 0|m2_ten: the move at step 0 takes the blank off the board|replay m2_ten
 refused M3|m3: there are more than 1000 moves|replay m3
 refused M4|standard input: the moves don't end on the goal board, which has each number in its own cell|<m4
-refused M4|m4_last: the moves don't end on the goal board, which has each number in its own cell. The blank, 0, stands last: if it does on your goal board, docs/BOARDS.md turns it|replay m4_last
+refused M4|m4_last: the moves don't end on the goal board, which has each number in its own cell. If the blank, 0, is last on your goal board, add --goal last|replay m4_last
+refused M4|m4: the moves don't end on the goal board, which has the blank last|replay --goal last m4
 refused T1|t1: a table file has at least 20 bytes|table t1
 refused T2|t2: a table file begins with `PDBT` and a byte 1|table t2
 refused T3 of table 1|t3: byte 5 of a table file is the side, 2 to 5|bound board one_set leaf F12 t3
@@ -130,8 +131,8 @@ refused L5|leaf: the log is one of another board|bound other_board one_set leaf 
 refused L6 at lemma 0|leaf: lemma 0 doesn't hold over these sets and tables|bound board one_set leaf F12
 refused O1 solution 8 bound 6|leaf: the solution has 8 moves, and the log proves that none has fewer than 6|optimal detour one_set leaf F123
 refused K1|the budget of boards is spent: `--budget N` allows more. The searches that ended found no solution of fewer than 3 moves|solve board one_set made F12 --budget 1
-refused K2|unsolvable: the board has no solution, or none of fewer than 255 moves|solve unsolvable one_set made F12
-refused K2|unsolvable_last: the board has no solution, or none of fewer than 255 moves. The blank, 0, stands last: if it does on your goal board, docs/BOARDS.md turns it|solve unsolvable_last one_set made F12
+refused K2|unsolvable: the board has no solution, or none of fewer than 255 moves; with the blank last it has one: --goal last|solve unsolvable one_set made F12
+refused K2|unsolvable_last: the board has no solution, or none of fewer than 255 moves; with the blank last it has one: --goal last|solve unsolvable_last one_set made F12
 refused K4|SIDE and MASK are no pattern: 1 to 3 tiles on side 2, to 8 on sides 3 and 4, to 6 on side 5, and none that isn't on the board|make-table 2 16 made
 refused Q1 at line 1|q1: line 1 is none of `BOARD`, `BOARD ; MOVES`, `BOARD : N` and `BOARD : N part I/K`. At column 11: a bound is a number from 0 to 255, with no zeros before it|prove q1 one_set F12
 refused Q1 at line 1|standard input: line 1 is none of `BOARD`, `BOARD ; MOVES`, `BOARD : N` and `BOARD : N part I/K`. At column 11: a bound is a number from 0 to 255, with no zeros before it|<q1 prove - one_set F12
@@ -329,8 +330,8 @@ refused L4|leaf: board, tables and log aren't all of one side|bound goal one_set
 refused L4|leaf_4: board, tables and log aren't all of one side|bound board one_set leaf_4 tiles_1_to_5 tiles_6_to_10
 refused L4|board, tables and log aren't all of one side|solve board one_set made tiles_1_to_5 tiles_6_to_10
 refused L5|leaf_4: the log is one of another board|bound next one_set leaf_4 tiles_1_to_5 tiles_6_to_10
-refused K2|swapped: the board has no solution, or none of fewer than 255 moves|solve swapped one_set made tiles_1_to_5 tiles_6_to_10
-refused K2|blank_last: the board has no solution, or none of fewer than 255 moves. The blank, 0, stands last: if it does on your goal board, docs/BOARDS.md turns it|solve blank_last one_set made tiles_1_to_5 tiles_6_to_10
+refused K2|swapped: the board has no solution, or none of fewer than 255 moves; with the blank last it has one: --goal last|solve swapped one_set made tiles_1_to_5 tiles_6_to_10
+refused K2|blank_last: the board has no solution, or none of fewer than 255 moves; with the blank last it has one: --goal last|solve blank_last one_set made tiles_1_to_5 tiles_6_to_10
 refused Q2 at line 100|near_q2: the board of line 100 is of another side than the tables|prove near_q2 one_set tiles_1_to_5 tiles_6_to_10
 END
 
@@ -366,7 +367,7 @@ says 'fault read none' 'prove none s2 tiles_1_to_5 tiles_6_to_10' "$ahead s2: li
 says 'fault size long_table' 'solve goal one_set made tiles_1_to_5 long_table' \
     "$ahead long_table: a table file begins with \`PDBT\` and a byte 1" 'long_table: it has more bytes than such a file may have'
 says 'fault write none/made' 'solve swapped one_set none/made tiles_1_to_5 tiles_6_to_10' \
-    "$ahead swapped: the board has no solution, or none of fewer than 255 moves" \
+    "$ahead swapped: the board has no solution, or none of fewer than 255 moves; with the blank last it has one: --goal last" \
     'none/made: nothing can be kept there: does its folder exist, may you write there, and is there room?'
 
 # With a clock that moves by 300 milliseconds each time that it is read, the check tells how far it has come between the two.

@@ -104,10 +104,14 @@ letter_of Right = 82
 abbrev pub letters_of : Bytes → Bytes
 letters_of moves = map letter_of (moves_of moves)
 
--- the line of letters for a goal: a space stands before them, where there are any
+-- letters behind their word: a space stands before them, where there are any
+abbrev pub moves_words : Bytes → Bytes
+moves_words [] = codes "moves"
+moves_words (letter ∷ letters) = codes "moves " ++ (letter ∷ letters)
+
+-- the line of letters for a goal
 abbrev pub moves_line : Goal → Bytes → Bytes
-moves_line goal [] = codes "moves" ++ goal_words goal ++ codes "\n"
-moves_line goal (letter ∷ letters) = codes "moves " ++ (letter ∷ letters) ++ goal_words goal ++ codes "\n"
+moves_line goal letters = moves_words letters ++ goal_words goal ++ codes "\n"
 
 -- the moves come before the line of their number
 abbrev pub lines_on : Goal → Bytes → ℕ → Bytes

@@ -7,7 +7,7 @@ use Rattle.std.specs.Prelude.{◌==◌, ◌≢◌}
 use Rattle.std.specs.List.{list_all, range_with_len}
 use Rattle.claim_text.specs.Claims as claims
 use Rattle.claim_text.specs.Claims.{HasNo, ShownAsks, ShownClaim, part}
-use Rattle.claim_text.specs.Lines.{asks_words, claim_line, claim_words, joined_line, numbers, shorter, spaced_letters, told_line, told_text}
+use Rattle.claim_text.specs.Lines.{asks_words, claim_line, claim_words, joined_goal, joined_line, numbers, shorter, spaced_letters, told_line, told_text}
 use Rattle.claim_text.specs.Parts.{part_at}
 use Rattle.claim_text.proofs.AnswerLemmas.{answer-no_lf, claim-no_lf, decimal-no_lf, goal-no_lf, join_no_lf, no_side, numbers-no_lf}
 use Rattle.claim_text.proofs.CutLemmas.{other_rest}
@@ -34,7 +34,7 @@ use Rattle.pdb_run.specs.declared.statuses.Status.TheVariants.{Yes}
 use Rattle.pdb_verdict.specs.Inputs.{Given, goal_of}
 use Rattle.puz_goal.specs.Goals.{goal_words}
 use Rattle.puz_goal.specs.declared.goals.Goal.{Goal}
-use Rattle.puz_goal.specs.declared.goals.Goal.TheVariants.{First}
+use Rattle.puz_goal.specs.declared.goals.Goal.TheVariants.{First, Last}
 use Rattle.pdb_verdict.specs.Lines.{counted_for, line_of_fault, line_of_verdict, reply_to}
 use Rattle.pdb_verdict.specs.Verdicts.{TellsResult}
 use Rattle.pdb_verdict.specs.declared.verdicts.Fault.{Fault}
@@ -202,14 +202,20 @@ search_answer goal tables (searched moves log n) =
 
 -- ---- parts of bounds
 
+-- what the goal adds to them is in one line
+joined_goal_one : (goal : Goal) → HasNo 10 (joined_goal goal)
+joined_goal_one First = All-nil (λ b. not (b == 10) ≡ true)
+joined_goal_one Last = known (joined_goal Last) refl
+
 -- the words of the line of a bound in parts
-abbrev pub joined_words : (n count : ℕ) → List ℕ → Bytes
-joined_words n count b =
+abbrev pub joined_words : Goal → (n count : ℕ) → List ℕ → Bytes
+joined_words goal n count b =
     codes "joined bound " ++ decimal n ++ codes " of" ++ numbers b ++ codes " from " ++ decimal count ++ codes " parts, by lines that were read"
+    ++ joined_goal goal
 
 -- they are one line
-pub joined_one : (n count : ℕ) (b : List ℕ) → HasNo 10 (joined_words n count b)
-joined_one n count b =
+pub joined_one : (goal : Goal) (n count : ℕ) (b : List ℕ) → HasNo 10 (joined_words goal n count b)
+joined_one goal n count b =
     let upto_bound = codes "joined bound " ++ decimal n in
     let upto_board = upto_bound ++ codes " of" ++ numbers b in
     let upto_count = upto_board ++ codes " from " ++ decimal count in
@@ -218,13 +224,12 @@ joined_one n count b =
     let board = join_no_lf (upto_bound ++ codes " of") (numbers b) of_board (numbers-no_lf b) in
     let from_count = join_no_lf upto_board (codes " from ") board (known (codes " from ") refl) in
     let count_told = join_no_lf (upto_board ++ codes " from ") (decimal count) from_count (decimal-no_lf count) in
-    join_no_lf upto_count (codes " parts, by lines that were read") count_told (known (codes " parts, by lines that were read") refl)
+    let read = join_no_lf upto_count (codes " parts, by lines that were read") count_told (known (codes " parts, by lines that were read") refl) in
+    join_no_lf (upto_count ++ codes " parts, by lines that were read") (joined_goal goal) read (joined_goal_one goal)
 
 -- which their end makes whole
-pub joined_ended : (n count : ℕ) (b : List ℕ) → joined_line n count b ≡ joined_words n count b ++ codes "\n"
-joined_ended n count b =
-    sym (append_assoc (codes "joined bound " ++ decimal n ++ codes " of" ++ numbers b ++ codes " from " ++ decimal count)
-    (codes " parts, by lines that were read") (codes "\n"))
+pub joined_ended : (goal : Goal) (n count : ℕ) (b : List ℕ) → joined_line goal n count b ≡ joined_words goal n count b ++ codes "\n"
+joined_ended goal n count b = refl
 
 digit_other : (digit letter : ℕ) → digit ≤ 57 → 57 < letter → digit ≢ letter
 digit_other digit letter low high = λ same. omega (arith, low, high, same)
@@ -286,16 +291,17 @@ joined_answer : (answers : List Bytes) (asked : ShownBoundInParts) (moves : Opti
     → IsAnswerReply (joined_reply answers asked moves)
 joined_answer answers asked (Some moves) board =
     let claim : ShownClaim = record { board = asked.board; asks = claims.bound asked.bound } in
-    let words = codes "O2 by" ++ spaced_letters moves ++ codes " of" ++ claim_words claim in
-    else_answer (told_line (shorter moves claim)) _ (told_text (shorter moves claim), refl, refused_whole words (answer-no_lf (shorter moves claim) tt))
+    let words = codes "O2 by" ++ spaced_letters moves ++ codes " of" ++ claim_words claim ++ goal_words asked.goal in
+    else_answer (told_line asked.goal (shorter moves claim)) _
+    (told_text asked.goal (shorter moves claim), refl, refused_whole words (answer-no_lf asked.goal (shorter moves claim) tt))
 joined_answer answers asked None board = go (are_told (flat_map whole_lines answers) asked) refl
   where
     go : (told : Bool) → are_told (flat_map whole_lines answers) asked ≡ told
         → IsAnswerReply (cond told (bound_reply answers asked) (open_reply answers asked))
     go true is =
-        let words = joined_words asked.bound asked.count asked.board in
-        let last = line_last words (joined_one asked.bound asked.count asked.board) in
-        digested answers [] _ Yes (yes_answer words _ (subst (IsLast words) (sym (joined_ended asked.bound asked.count asked.board)) last))
+        let words = joined_words asked.goal asked.bound asked.count asked.board in
+        let last = line_last words (joined_one asked.goal asked.bound asked.count asked.board) in
+        digested answers [] _ Yes (yes_answer words _ (subst (IsLast words) (sym (joined_ended asked.goal asked.bound asked.count asked.board)) last))
     go false is =
         let left = some_fail (is_told (flat_map whole_lines answers) asked) (range_with_len 0 asked.count) is in
         subst (λ (indices : List ℕ). IsAnswerText (flat_map (open_claim asked) indices) (status_of_reply false)) (sym left.2)

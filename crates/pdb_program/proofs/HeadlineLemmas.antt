@@ -235,13 +235,14 @@ module _ (before later : Files) (input start lines : Bytes) (calls calls_after :
       let is = a.right.1 in
       let said = yes_says arguments a.inputs a.reply is (says a.reply.is_yes true a.is_status) in
       let read = rw is.order at a.right.0 in
-      let words = joined_words arguments.bound arguments.count said.board in
+      let goal = arguments.goal in
+      let words = joined_words goal arguments.bound arguments.count said.board in
       let is_last : IsLast words lines = record {
         above = digests_of is.answers;
         whole = append_cancel_left start lines _ a.lines.0 ∙ said.line
-            ∙ ap (λ (t : Bytes). digests_of is.answers ++ t) (joined_ended arguments.bound arguments.count said.board);
+            ∙ ap (λ (t : Bytes). digests_of is.answers ++ t) (joined_ended goal arguments.bound arguments.count said.board);
         none = digests_say_no_yes is.answers;
-        one = joined_one arguments.bound arguments.count said.board;
+        one = joined_one goal arguments.bound arguments.count said.board;
       } in
       record {
         line = words;

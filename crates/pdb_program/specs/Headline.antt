@@ -17,7 +17,7 @@ use Rattle.tab_rule.specs.ExactTables.{IsExactFile}
 use Rattle.byte_io.specs.Shelf.{Bytes}
 use Rattle.pdb_request.specs.Asked.{Asked, ProveArguments, TableArguments, bound, make_table, optimal, parts, prove, replay, solve, table}
 use Rattle.pdb_run.specs.Writing.{digests_of}
-use Rattle.pdb_verdict.specs.Bound.{IsBoundedText, IsProvedBound}
+use Rattle.pdb_verdict.specs.Bound.{IsBoundedText, IsProvedFor}
 use Rattle.pdb_verdict.specs.Lines.{exact_line}
 use Rattle.pdb_verdict.specs.Replay.{IsSolvedPuzzle}
 use Rattle.pdb_parts.specs.Laws.{AreTrueAnswers}
@@ -84,7 +84,7 @@ HoldsOfYes (solve a) before later input above line =
     × (line ≡ codes "optimal " ++ decimal n ++ goal_words a.goal)
     × (higher : Bytes) × HasLine higher (codes "moves" ++ moves ++ goal_words a.goal) [] above × SolvesFor a.goal b moves n × IsBoundedFor a.goal b n
     × (set_text : Bytes) × (files : List Bytes) × (log : Bytes) × (before a.sets ≡ Some set_text) × (map before a.tables ≡ map Some files)
-    × (later a.out ≡ Some log) × IsProvedBound a.fold (board_for a.goal b) set_text log files n
+    × (later a.out ≡ Some log) × IsProvedFor a.goal a.fold b set_text log files n
 -- the line is a true answer to a claim
 HoldsOfYes (prove a) before later input above line = HoldsOfClaim a.goal line
 -- the line is `joined bound n of` the board in the text, `from k parts, by lines that were read`, and the words of the goal; above it

@@ -18,6 +18,9 @@ use std::fmt::{Display, Formatter};
 /// What stands before a reason that is told before the run ends.
 const AHEAD: &str = "this run can't end in a yes: ";
 
+/// What is said of moves that don't end with the blank last at home.
+const NOT_LAST: &str = "the moves don't end on the goal board, which has the blank last";
+
 /// What a sentence names.
 #[derive(Clone, Copy, Debug, PartialEq, Eq)]
 enum Named<'a> {
@@ -129,6 +132,14 @@ impl<'a> Reason<'a> {
         }
     }
 
+    /// What is said in place of the sentence of its cause: where what is there is spared, and of moves that don't end with the blank last.
+    fn own_text(&self) -> Option<&'static str> {
+        match (self.goal, self.why) {
+            (Goal::Last, Cause::Refused(Fault::Moves(MoveFault::M4))) => Some(NOT_LAST),
+            _ => self.spared,
+        }
+    }
+
     /// What it speaks of.
     fn subject(&self) -> Subject {
         match self.why {
@@ -160,7 +171,7 @@ impl Display for Reason<'_> {
             Named::LastClaim => f.write_str("the last claim: ")?,
             Named::Nothing => {}
         }
-        match self.spared {
+        match self.own_text() {
             Some(text) => f.write_str(text)?,
             None => write_cause(f, &self.why)?,
         }

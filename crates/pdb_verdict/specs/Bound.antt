@@ -23,6 +23,10 @@ pub record IsProvedBound (fold : Bool) (board : List ℕ) (sets log : Bytes) (ta
   pub is_bundle : IsBundleOfFiles fold tables sets bundle
   pub good : IsGoodFile bundle board log bound
 
+-- they are such for the board as it is turned for a goal
+abbrev pub IsProvedFor : Goal → Bool → List ℕ → Bytes → Bytes → List Bytes → ℕ → Type 0
+IsProvedFor goal fold board sets log tables bound = IsProvedBound fold (board_for goal board) sets log tables bound
+
 -- they make a bundle, and over it the log file is refused for this
 pub record IsRefusedLog (fold : Bool) (board : List ℕ) (sets log : Bytes) (tables : List Bytes) (refused : LogRefusal) : Type 0 where
   pub bundle : ShownBundle

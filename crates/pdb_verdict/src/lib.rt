@@ -27,7 +27,9 @@ pub use laws::{
 pub use limits::{a_log, a_table, a_text, with_tables};
 pub use lines::line_of;
 pub use replay::verify_puzzle;
-pub use reports::{digests, line, report, settled, told, told_for, told_or_memory, told_or_memory_for};
+pub use reports::{
+    digests, line, report, settled, told, told_for, told_or_memory, told_or_memory_for,
+};
 pub use table::verify_table;
 pub use tables::{TableFiles, given_up, over_tables};
 pub use verdicts::{Fault, Verdict};

@@ -1,6 +1,6 @@
 //! The lines that a verdict or a refusal is told in, as values.
 
-ghost use Rattle.std.specs.Prelude.{◌≡◌, ◌≤◌, ℕ, length};
+ghost use Rattle.std.specs.Prelude.{◌≡◌, ◌≤◌, ◌++◌, ℕ, codes, length};
 ghost use Rattle.pdb_verdict.specs.Lines.{counted, counted_for, counted_twice, exact_line, line_for, line_of, line_of_board_fault, line_of_fault, line_of_form_fault, line_of_head_fault, line_of_numbered_head_fault, line_of_log_refusal, line_of_move_fault, line_of_set_fault, line_of_table_refusal, line_of_numbered_table_refusal};
 
 use crate::verdicts::{Fault, Verdict};
@@ -43,7 +43,15 @@ fn counted_for(goal: Goal, text: &str, number: u64) -> AnswerLines
     ensures { result.bytes ≡ counted_for goal text.now number }
 {
     let mut digits = Buffer::new();
-    lines(&[text, digits.format(number), goal.words(), "\n"])
+    with_end(text, digits.format(number), goal.words())
+}
+
+/// A text, digits, words behind them, and the line's end.
+fn with_end<'t>(text: &'t str, digits: &'t str, words: &'t str) -> AnswerLines
+    requires { (length text.now ≤ MOST_TEXT) × (length digits.now ≤ 20) × (length words.now ≤ 20) }
+    ensures { result.bytes ≡ text.now ++ digits.now ++ words.now ++ codes "\n" }
+{
+    lines(&[text, digits, words, "\n"])
 }
 
 /// The line of an exact table.

@@ -14,8 +14,8 @@ use crate::lines::{line_for, line_of};
 use crate::verdicts::{Fault, Verdict};
 use byte_io::sinks::Sink;
 use byte_io::streams::{WriteFault, put_text};
-use puz_goal::Goal;
 use pdb_run::{Answered, CommandAnswer, Digested, FILES_BESIDE, say, say_digests};
+use puz_goal::Goal;
 use set_sum::MOST_TABLES;
 use std::alloc::AllocError;
 
@@ -35,7 +35,10 @@ pub fn report<W: Sink>(
         return line(answer, out);
     }
     let (files, last) = checked_files(inputs);
-    say(&told_for(goal_of(inputs), Digested::Files(files, last), answer), out)
+    say(
+        &told_for(goal_of(inputs), Digested::Files(files, last), answer),
+        out,
+    )
 }
 
 /// Writes the digest line of each file that is checked.

@@ -92,7 +92,10 @@ make_table_knows name = elim (cases_Bool (bytes_eq (codes "replace") name)) [
 prove_knows : KnowsItsFlags (codes "prove")
 prove_knows = goal_or (codes "prove") (inr (inr (inr (inr (inl refl))))) (λ name g. elim (cases_Bool (bytes_eq (codes "budget") name)) [
   | inl e ↦ inr (inr (inr (inl (inr (inl refl), sym (same_text (codes "budget") name e)))))
-  | inr e ↦ rw (g, e) (grind arith)
+  | inr e ↦ elim (cases_Bool (bytes_eq (codes "fold") name)) [
+    | inl f ↦ inr (inr (inl (inr (inr (inr (inl refl))), sym (same_text (codes "fold") name f))))
+    | inr f ↦ rw (g, e, f) (grind arith)
+  ]
 ])
 
 all_know : (command : Text) → IsCommand command → KnowsItsFlags command

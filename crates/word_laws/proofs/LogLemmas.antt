@@ -9,11 +9,11 @@ use Rattle.clap.proofs.OnLiterals.{clap_on_literals}
 use Rattle.pdb_request.specs.Asked.{Asked, bound, optimal}
 use Rattle.puz_goal.specs.declared.goals.Goal.TheVariants.{Last}
 use Rattle.pdb_words.specs.Budget.{usual_budget}
-use Rattle.pdb_words.specs.CommandLine.{faults_of}
+use Rattle.pdb_words.specs.CommandLine.{parse_faults}
 use Rattle.pdb_words.specs.Commands.{IsCommand, IsPlain}
 use Rattle.pdb_words.specs.Faults.{IsMistaken}
 use Rattle.pdb_words.specs.Numbers.{number_of}
-use Rattle.pdb_words.proofs.CommandLemmas.{faults_behind, mistaken}
+use Rattle.pdb_words.proofs.CommandLemmas.{mistaken_parse, parse_faults_behind}
 use Rattle.word_laws.proofs.WalkLemmas.{AsksIf, Comes, FitsTables, Word, asks_if, budgets, flag, missing, numbered, plain, tables_come, text_of}
 use Rattle.word_laws.proofs.WalkLemmas.{unless, workers}
 use Rattle.word_laws.specs.Asking.{AsksFor}
@@ -163,10 +163,10 @@ tableless on_search false text sets log t s l = missing (is_command on_search) (
 tableless command false text sets log t s l = missing (is_command command) (plain text t ∷ plain sets s ∷ plain log l ∷ []) refl
 
 -- `--fold` twice
-folded_twice : (command : LogCommand) (words : List Text) → faults_of (name_of command ∷ codes "--fold" ∷ codes "--fold" ∷ words) ≡ kind.ArgumentConflict ∷ []
+folded_twice : (command : LogCommand) (words : List Text) → parse_faults (name_of command ∷ codes "--fold" ∷ codes "--fold" ∷ words) ≡ kind.ArgumentConflict ∷ []
 unfolding clap_on_literals
-folded_twice on_search words = faults_behind (codes "solve") (is_command on_search) (codes "--fold" ∷ codes "--fold" ∷ words)
-folded_twice command words = faults_behind (name_of command) (is_command command) (codes "--fold" ∷ codes "--fold" ∷ words)
+folded_twice on_search words = parse_faults_behind (codes "solve") (is_command on_search) (codes "--fold" ∷ codes "--fold" ∷ words)
+folded_twice command words = parse_faults_behind (name_of command) (is_command command) (codes "--fold" ∷ codes "--fold" ∷ words)
 
 -- what these commands share
 pub names_log : (command : LogCommand) → NamesLog (name_of command) (asks command)
@@ -179,7 +179,7 @@ names_log command = record {
   other_workers_last = λ names folds number n. (workers_last names number n command folds).1;
   fold_last = λ names. fold_asked names command;
   goal_last = λ names folds. goal_asked names command folds;
-  fold_twice = λ words. mistaken _ kind.ArgumentConflict [] (folded_twice command words) (λ e. cc) (λ e. cc);
+  fold_twice = λ words. mistaken_parse _ kind.ArgumentConflict [] (folded_twice command words) (λ e. cc) (λ e. cc);
 }
 
 -- the words of `bound`

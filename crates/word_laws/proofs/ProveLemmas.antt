@@ -9,12 +9,12 @@ use Rattle.clap.proofs.OnLiterals.{clap_on_literals}
 use Rattle.pdb_request.specs.Asked.{Asked, most_budget, prove}
 use Rattle.puz_goal.specs.declared.goals.Goal.{Goal}
 use Rattle.puz_goal.specs.declared.goals.Goal.TheVariants.{First, Last}
-use Rattle.pdb_words.specs.CommandLine.{faults_of}
+use Rattle.pdb_words.specs.CommandLine.{parse_faults}
 use Rattle.pdb_words.specs.Commands.{IsCommand, IsPlain}
 use Rattle.pdb_words.specs.Faults.{IsMistaken}
 use Rattle.pdb_words.specs.Numbers.{number_of, number_written}
 use Rattle.pdb_words.specs.Prove.{file_or_input}
-use Rattle.pdb_words.proofs.CommandLemmas.{faults_behind, mistaken}
+use Rattle.pdb_words.proofs.CommandLemmas.{mistaken_parse, parse_faults_behind}
 use Rattle.word_laws.proofs.WalkLemmas.{AsksIf, Comes, FitsTables, Word, asks_if, asks_when, budgets, flag, missing, numbered, plain, tables_come}
 use Rattle.word_laws.proofs.WalkLemmas.{text_of, unless, workers}
 use Rattle.word_laws.proofs.TextLemmas.{by_source, file_is, word_for, word_is}
@@ -169,10 +169,10 @@ tableless (file name is) sets false s = missing is_command (plain name is ∷ pl
 tableless input sets true s = missing is_command (flag (codes "--fold") ∷ flag (codes "-") ∷ plain sets s ∷ []) refl
 tableless input sets false s = missing is_command (flag (codes "-") ∷ plain sets s ∷ []) refl
 
-folds_wrong : (words : List Text) → faults_of (codes "prove" ∷ codes "--fold" ∷ codes "--fold" ∷ words) ≡ kind.ArgumentConflict ∷ []
+folds_wrong : (words : List Text) → parse_faults (codes "prove" ∷ codes "--fold" ∷ codes "--fold" ∷ words) ≡ kind.ArgumentConflict ∷ []
 unfolding clap_on_literals
-folds_wrong words = faults_behind (codes "prove") is_command (codes "--fold" ∷ codes "--fold" ∷ words)
+folds_wrong words = parse_faults_behind (codes "prove") is_command (codes "--fold" ∷ codes "--fold" ∷ words)
 
 -- `--fold` twice
 pub folded_twice : (words : List Text) → IsMistaken (codes "prove" ∷ codes "--fold" ∷ codes "--fold" ∷ words)
-folded_twice words = mistaken _ kind.ArgumentConflict [] (folds_wrong words) (λ e. cc) (λ e. cc)
+folded_twice words = mistaken_parse _ kind.ArgumentConflict [] (folds_wrong words) (λ e. cc) (λ e. cc)
