@@ -25,19 +25,26 @@ impl Display for Summary {
         let claims = tally.claims;
         let plural = if claims == 1 { "" } else { "s" };
         write!(f, "pdb_cli: {claims} claim{plural}: ")?;
-        let kinds = [
-            (tally.optima, "optimal"),
-            (tally.bounds, "bound"),
-            (tally.parts, "part"),
-            (tally.refused, "refused"),
-        ];
-        let mut comma = "";
-        for (count, kind) in kinds {
-            if count > 0 {
-                write!(f, "{comma}{count} {kind}")?;
-                comma = ", ";
-            }
-        }
-        Ok(())
+        write_kind(f, 0, tally.optima, "optimal")?;
+        let before = tally.optima;
+        write_kind(f, before, tally.bounds, "bound")?;
+        let before = before.saturating_add(tally.bounds);
+        write_kind(f, before, tally.parts, "part")?;
+        let before = before.saturating_add(tally.parts);
+        write_kind(f, before, tally.refused, "refused")
     }
+}
+
+/// Writes how many claims were answered so, where any were, behind those before.
+fn write_kind<W: fmt::Write>(
+    f: &mut Formatter<W>,
+    before: usize,
+    count: usize,
+    kind: &str,
+) -> fmt::Result {
+    if count == 0 {
+        return Ok(());
+    }
+    let comma = if before == 0 { "" } else { ", " };
+    write!(f, "{comma}{count} {kind}")
 }
