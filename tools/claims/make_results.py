@@ -55,7 +55,7 @@ printf 'set 0 1 2 3\\nset 0t 1t 2t 3t\\n' >sets
     diff - docs/results/korf_felner_2002.answers
 ```
 
-The number of boards is that of the last search. They expand {boards} in all. Four idle processors expand 47 to 53 million a second ([SPEED](SPEED.md)).
+The number of boards is that of the last search. All together expand {boards}; [SPEED](SPEED.md) says how fast.
 """
 # A search of fewer than 65,536 boards tells nothing while it runs.
 FEW = "few"
