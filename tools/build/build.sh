@@ -20,10 +20,11 @@ take_lock() {
     flock "$lock" || say "$kept/lock cannot be locked"
 }
 
-# Keeps the program $1 as the one that was proved here of the sources with the digest $2, by the kit that `by` names.
+# Keeps the program $1 as the one that was proved here of the sources with the digest $2, by the kit that `by` names. Its file ends
+# with a line that says which sources, and that it writes behind its version.
 install_program() {
     local own
-    cp -- "$1" "$program.$$" && [ -x "$program.$$" ] && own=$(sha256sum <"$program.$$") &&
+    cp -- "$1" "$program.$$" && [ -x "$program.$$" ] && printf 'sources %s\n' "$2" >>"$program.$$" && own=$(sha256sum <"$program.$$") &&
         keep_program "$program.$$" proved "program ${own%% *}"$'\n'"sources $2"$'\n'"kit $by" || say "the program that was made cannot be copied to $kept"
 }
 
