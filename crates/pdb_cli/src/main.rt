@@ -106,7 +106,7 @@ fn asks_for_version(all: &Result<Vec<String>, ArgumentFault>) -> bool {
         Ok(all) => all
             .as_slice()
             .get(1)
-            .is_some_and(|word| word == "--version" || word == "-V"),
+            .is_some_and(|word| matches!(word.as_str(), "--version" | "-V")),
         Err(_) => false,
     }
 }

@@ -1,6 +1,6 @@
 -- Which files what is made takes the place of, unless it may take that of any: all others are spared.
 use Rattle.std.specs.Prelude.{ℕ, Bool, true, false, List, [], ◌∷◌, ◌++◌, Option, Some, None, codes, count_ones}
-use Rattle.core.specs.Int.{to_be_bytes, w32}
+use Rattle.std.specs.Int.{to_be_bytes, w32}
 use Rattle.byte_io.specs.Shelf.{Bytes}
 
 -- the first twelve bytes of a table of this mask on boards of this side
