@@ -1,7 +1,7 @@
 //! Why a run ended without a yes.
 
 use crate::beginnings::Beginning;
-use crate::outs::spared_text;
+use crate::outs::{spared_text, unkept_text};
 use crate::texts::{ended_below, write_cause};
 use byte_io::shelf::Shelf;
 use pdb_progress::ShownName;
@@ -46,8 +46,8 @@ enum Subject {
 pub struct Reason<'a> {
     why: Cause<'a, Fault>,
     name: Named<'a>,
-    /// Why nothing is kept, where what is there is spared.
-    spared: Option<&'static str>,
+    /// Why nothing is kept, where what is there tells it.
+    unkept: Option<&'static str>,
     beginning: Beginning,
     /// Whether the run has still to end.
     is_ahead: bool,
@@ -59,7 +59,7 @@ impl<'a> Reason<'a> {
         Some(Reason {
             why,
             name: named_for(asked, why)?,
-            spared: None,
+            unkept: None,
             beginning: Beginning::OfAny,
             is_ahead: false,
         })
@@ -73,16 +73,15 @@ impl<'a> Reason<'a> {
         }
     }
 
-    /// The same, of a run that did what was asked on this shelf: where nothing could be kept, since what is there is spared, that is
-    /// told.
+    /// The same, of a run that did what was asked on this shelf: where nothing was kept since what is there is spared, or is
+    /// read-only, that is told.
     pub fn on_shelf<S: Shelf>(self, asked: &Request<'_>, shelf: &S) -> Reason<'a> {
-        match self.why {
-            Cause::Unkept(_) => Reason {
-                spared: spared_text(asked, shelf),
-                ..self
-            },
-            _ => self,
-        }
+        let unkept = match self.why {
+            Cause::Spared(name) => Some(spared_text(asked, name, shelf)),
+            Cause::Unkept(name) => unkept_text(name, shelf),
+            _ => None,
+        };
+        Reason { unkept, ..self }
     }
 
     /// The same, where that file begins so. What is said of that is left out where it is no surprise.
@@ -129,7 +128,7 @@ impl Display for Reason<'_> {
             Named::LastClaim => f.write_str("the last claim: ")?,
             Named::Nothing => {}
         }
-        match self.spared {
+        match self.unkept {
             Some(text) => f.write_str(text)?,
             None => write_cause(f, &self.why)?,
         }
@@ -141,7 +140,7 @@ impl Display for Reason<'_> {
 fn named_for<'a>(asked: &Request<'a>, why: Cause<'a, Fault>) -> Option<Named<'a>> {
     match why {
         Cause::Unread(name) | Cause::TooLong(name) => Some(file_or_input(name)),
-        Cause::Unkept(name) => Some(Named::File(name)),
+        Cause::Spared(name) | Cause::Unkept(name) => Some(Named::File(name)),
         Cause::MadeWrong | Cause::NoMemory => Some(Named::Nothing),
         Cause::Refused(fault) => named_for_refusal(asked, fault),
         Cause::Unwritten | Cause::Words | Cause::Open => None,
