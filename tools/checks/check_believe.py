@@ -34,10 +34,10 @@ CLAUSE = RUN + ".headline"
 HEADLINE = "pdb_program::Headline::Headline"
 # What a log has to be, and when a part of a bound holds, is set apart: of the headline the lines on `solve`, and those on `parts` and on
 # parts, alone cite it.
-LOG = "pdb_verdict::Bound::IsProvedBound"
+LOG = "pdb_verdict::Bound::IsProvedFor"
 ANSWERS = "pdb_parts::Laws::AreTrueAnswers"
 PART = "pdb_program::Headline::HoldsOfPart"
-MOST_DEFINITIONS, MOST_LINES = 90, 320
+MOST_DEFINITIONS, MOST_LINES = 95, 345
 
 WORD = re.compile(r"[^\s(){}\[\],;.]+(?:\.[^\s(){}\[\],;.]+)*")
 START = re.compile(

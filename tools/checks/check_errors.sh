@@ -100,11 +100,12 @@ refused B5 at number 3|b5: number 3 of the board stands there twice|parts b5 6 3
 refused B5 at number 3|standard input: number 3 of the board stands there twice|<b5 parts - 6 3 board
 refused M1 at byte 3|m1: byte 3 behind the `;` is none of U, D, L, R, space, tab and line end|replay m1
 refused M2 at step 1|m2: the move at step 1 takes the blank off the board|replay m2
-refused M2 at step 0|m2_last: the move at step 0 takes the blank off the board. The blank, 0, stands last: if it does on your goal board, docs/BOARDS.md turns it|optimal m2_last one_set leaf F123
+refused M2 at step 0|m2_last: the move at step 0 takes the blank off the board. If the blank, 0, is last on your goal board, add --goal last|optimal m2_last one_set leaf F123
 refused M2 at step 0|m2_ten: the move at step 0 takes the blank off the board|replay m2_ten
 refused M3|m3: there are more than 1000 moves|replay m3
 refused M4|standard input: the moves don't end on the goal board, which has each number in its own cell|<m4
-refused M4|m4_last: the moves don't end on the goal board, which has each number in its own cell. The blank, 0, stands last: if it does on your goal board, docs/BOARDS.md turns it|replay m4_last
+refused M4|m4_last: the moves don't end on the goal board, which has each number in its own cell. If the blank, 0, is last on your goal board, add --goal last|replay m4_last
+refused M4|m4: the moves don't end on the goal board, which has the blank last|replay --goal last m4
 refused T1|t1: a table file has at least 20 bytes|table t1
 refused T2|t2: a table file begins with `PDBT` and a byte 1|table t2
 refused T3 of table 1|t3: byte 5 of a table file is the side, 2 to 5|bound board one_set leaf F12 t3
@@ -130,11 +131,11 @@ refused L5|leaf: the log is one of another board|bound other_board one_set leaf 
 refused L6 at lemma 0|leaf: lemma 0 doesn't hold over these sets and tables|bound board one_set leaf F12
 refused O1 solution 8 bound 6|leaf: the solution has 8 moves, and the log proves that none has fewer than 6|optimal detour one_set leaf F123
 refused K1|the budget of boards is spent: `--budget N` allows more. The searches that ended found no solution of fewer than 3 moves|solve board one_set made F12 --budget 1
-refused K2|unsolvable: the board has no solution, or none of fewer than 255 moves|solve unsolvable one_set made F12
-refused K2|unsolvable_last: the board has no solution, or none of fewer than 255 moves. The blank, 0, stands last: if it does on your goal board, docs/BOARDS.md turns it|solve unsolvable_last one_set made F12
+refused K2|unsolvable: the board has no solution, or none of fewer than 255 moves; with the blank last it has one: --goal last|solve unsolvable one_set made F12
+refused K2|unsolvable_last: the board has no solution, or none of fewer than 255 moves; with the blank last it has one: --goal last|solve unsolvable_last one_set made F12
 refused K4|SIDE and MASK are no pattern: 1 to 3 tiles on side 2, to 8 on sides 3 and 4, to 6 on side 5, and none that isn't on the board|make-table 2 16 made
-refused Q1 at line 1|q1: line 1 is none of `BOARD`, `BOARD ; MOVES`, `BOARD : N` and `BOARD : N part I/K`|prove q1 one_set F12
-refused Q1 at line 1|standard input: line 1 is none of `BOARD`, `BOARD ; MOVES`, `BOARD : N` and `BOARD : N part I/K`|<q1 prove - one_set F12
+refused Q1 at line 1|q1: line 1 is none of `BOARD`, `BOARD ; MOVES`, `BOARD : N` and `BOARD : N part I/K`. At column 11: a bound is a number from 0 to 255, with no zeros before it|prove q1 one_set F12
+refused Q1 at line 1|standard input: line 1 is none of `BOARD`, `BOARD ; MOVES`, `BOARD : N` and `BOARD : N part I/K`. At column 11: a bound is a number from 0 to 255, with no zeros before it|<q1 prove - one_set F12
 refused Q2 at line 1|q2: the board of line 1 is of another side than the tables|prove q2 one_set F12
 refused K2 of 0 1 3 2||prove refused_claims one_set F12
 refused M4 of 1 0 2 3 ; LR||prove m4 one_set F12
@@ -175,6 +176,52 @@ fault write leaf|leaf: a log is there, or what can't be read, so no table takes 
 fault write F123|F123: a table of another side or mask is there, so it is not replaced: `--replace` allows that|make-table 2 1 F123
 fault write board|board: what is there is neither a table nor a log, or can't be read, so it is not replaced: `--replace` allows that|make-table 2 1 board
 fault write F12|F12: it is read-only to its owner, so it is not replaced: `chmod u+w` allows that|make-table 2 6 F12 --replace
+END
+
+# Where a line that is no claim goes wrong, and what is wrong there.
+forms='`BOARD`, `BOARD ; MOVES`, `BOARD : N` and `BOARD : N part I/K`'
+while IFS='~' read -r claim column what; do
+    printf '3 2 1 0\n%b\n' "$claim" >claims
+    says 'refused Q1 at line 1' 'prove claims one_set F12' "claims: line 1 is none of $forms. At column $column: $what"
+done <<'END'
+~1~the line is empty
+# boards~1~a line that begins with `#` is no comment here
+\xef\xbb\xbf3 2 1 0~1~a byte order mark stands before the claim
+bound 6 of 3 2 1 0~1~it is an answer: its claim is what stands behind `of`
+3,2,1,0~2~numbers are parted by spaces alone
+3 2 1 -~7~numbers have no sign
+3 2 1 _~7~the blank is written 0
+[3 2 1 0]~1~brackets and quotes are left out
+3 2 1 0 ULDRUL~9~moves stand behind a `;`
+3 2 1 0 uldrul~9~moves stand behind a `;`, as capital letters
+3 2 1 0 part 0/3~9~a bound stands behind a `:`
+3 2 1 000~7~three or more digits stand in a row
+: 6~1~no board stands before it
+7 3 2 1 0 : 6~1~a number stands before the board
+3 2 1 0 6~9~a bound stands behind a `:`
+3 2 1 : 6~1~a board has 4, 9, 16 or 25 numbers, and not 3
+3 2 1 4~7~the numbers begin with 0, which is the blank
+3 2 0 4~7~the number is too great for so many cells
+3 2 0 2~7~this number stands there twice
+3 2 1 0 ; uldrul~11~moves are written as capital letters
+3 2 1 0 ; 6~11~moves stand behind a `;`, and a bound behind a `:`
+3 2 1 0 : ULDRUL~11~moves stand behind a `;`, and a bound behind a `:`
+3 2 1 0 ; ULDRUL : 6~18~a claim has moves or a bound, and not both
+3 2 1 0 : 6 ULDRUL~13~a claim has moves or a bound, and not both
+3 2 1 0 ; NWSENW~11~moves are U, D, L and R, for the way that the blank goes
+3 2 1 0 ; UL, DRUL~13~moves are parted by spaces or by nothing
+3 2 1 0 :~10~a number stands behind the `:`
+3 2 1 0 : 256~11~a bound is 255 at most
+3 2 1 0 : -6~11~a bound is a number from 0 to 255
+3 2 1 0 : 6 Part 0/3~13~`part` is written in small letters
+3 2 1 0 : 6 part0/3~13~a space stands behind `part`
+3 2 1 0 : 6 7~13~behind a bound stands nothing, or `part` and I/K
+3 2 1 0 : 6 part~13~behind `part` stands I/K, as 0/3
+3 2 1 0 : 6 part 0-3~18~a part is written I/K, as 0/3
+3 2 1 0 : 6 part 0/4~18~the count of parts is odd
+3 2 1 0 : 6 part 3/3~18~parts are numbered from 0 up to one below their count
+3 2 1 0 : 6 part 0/65537~18~a bound has 65,535 parts at most
+3 2 1 0 : 6 part 0/3 1/3~22~nothing stands behind a part
 END
 
 # A table of eight tiles, in a header before a hole, is read where there is memory for it alone.
@@ -286,8 +333,8 @@ refused L4|leaf: board, tables and log aren't all of one side|bound goal one_set
 refused L4|leaf_4: board, tables and log aren't all of one side|bound board one_set leaf_4 tiles_1_to_5 tiles_6_to_10
 refused L4|board, tables and log aren't all of one side|solve board one_set made tiles_1_to_5 tiles_6_to_10
 refused L5|leaf_4: the log is one of another board|bound next one_set leaf_4 tiles_1_to_5 tiles_6_to_10
-refused K2|swapped: the board has no solution, or none of fewer than 255 moves|solve swapped one_set made tiles_1_to_5 tiles_6_to_10
-refused K2|blank_last: the board has no solution, or none of fewer than 255 moves. The blank, 0, stands last: if it does on your goal board, docs/BOARDS.md turns it|solve blank_last one_set made tiles_1_to_5 tiles_6_to_10
+refused K2|swapped: the board has no solution, or none of fewer than 255 moves; with the blank last it has one: --goal last|solve swapped one_set made tiles_1_to_5 tiles_6_to_10
+refused K2|blank_last: the board has no solution, or none of fewer than 255 moves; with the blank last it has one: --goal last|solve blank_last one_set made tiles_1_to_5 tiles_6_to_10
 refused Q2 at line 100|near_q2: the board of line 100 is of another side than the tables|prove near_q2 one_set tiles_1_to_5 tiles_6_to_10
 END
 
@@ -305,7 +352,7 @@ refused Q2 at line 0|standard input: the board of line 0 is of another side than
 refused B5 at number 3|b5: number 3 of the board stands there twice|bound b5 s1 leaf_4 tiles_1_to_5 tiles_6_to_10
 refused B4 at number 3|b4: number 3 of the board is too great for that many cells|solve b4 s1 made tiles_1_to_5 tiles_6_to_10
 refused M4|m4: the moves don't end on the goal board, which has each number in its own cell|optimal m4 s1 leaf_4 tiles_1_to_5 tiles_6_to_10
-refused Q1 at line 1|q1: line 1 is none of `BOARD`, `BOARD ; MOVES`, `BOARD : N` and `BOARD : N part I/K`|prove q1 s1 tiles_1_to_5 tiles_6_to_10
+refused Q1 at line 1|q1: line 1 is none of `BOARD`, `BOARD ; MOVES`, `BOARD : N` and `BOARD : N part I/K`. At column 11: a bound is a number from 0 to 255, with no zeros before it|prove q1 s1 tiles_1_to_5 tiles_6_to_10
 END
 
 status=0
@@ -323,7 +370,7 @@ says 'fault read none' 'prove none s2 tiles_1_to_5 tiles_6_to_10' "$ahead s2: li
 says 'fault size long_table' 'solve goal one_set made tiles_1_to_5 long_table' \
     "$ahead long_table: a table file begins with \`PDBT\` and a byte 1" 'long_table: it has more bytes than such a file may have'
 says 'fault write none/made' 'solve swapped one_set none/made tiles_1_to_5 tiles_6_to_10' \
-    "$ahead swapped: the board has no solution, or none of fewer than 255 moves" \
+    "$ahead swapped: the board has no solution, or none of fewer than 255 moves; with the blank last it has one: --goal last" \
     'none/made: nothing can be kept there: does its folder exist, may you write there, and is there room?'
 
 # With a clock that moves by 300 milliseconds each time that it is read, the check tells how far it has come between the two.

@@ -110,6 +110,36 @@ expect 'replay of bytes that are no text' 1 'refused P1' : replay puzzle
 printf '0 1 2 \xff ;' >puzzle
 expect 'replay of numbers that are no text' 1 'refused B1 at byte 6' : replay puzzle
 
+# The blank last at home. The board 0 3 2 1 and the moves DRULDR are 3 2 1 0 and ULDRUL turned by half a turn.
+echo '0 3 2 1 ; DRULDR' >six_moves_last
+# last MOVES STATUS LINE: of the board 1 2 3 4 0 6 7 5 8, which is two moves from home
+last() {
+    echo "1 2 3 4 0 6 7 5 8 ; $1" >puzzle
+    expect "replay of $1 with the blank last" "$2" "$3" : replay --goal last puzzle
+}
+last DR 0 'solution 2 with the blank last'
+last 'DU D R' 0 'solution 4 with the blank last'
+last UL 1 'refused M4'
+last DDR 1 'refused M2 at step 1'
+last 'D r' 1 'refused M1 at byte 3'
+last "$back_and_forth" 1 'refused M4'
+last "DR$back_and_forth" 1 'refused M2 at step 2'
+last "DU${back_and_forth}" 1 'refused M3'
+expect 'replay with the blank last' 0 'solution 6 with the blank last' : replay six_moves_last --goal=last
+expect 'the same with the blank first' 1 'refused M4' : replay six_moves_last
+expect 'replay with the blank first, by the flag' 0 'solution 6' : replay --goal first solved
+expect 'the home of the one is not that of the other' 1 'refused M4' : replay --goal last solved
+input=six_moves_last
+expect 'replay of the input with the blank last' 0 'solution 6 with the blank last' : replay --goal last
+input=/dev/null
+for words in 'replay --goal' 'replay --goal middle p' 'replay --goal= p' 'replay --goal Last p' 'replay --goal last --goal last p' \
+    'table --goal last t' 'make-table --goal last 2 6 o' 'bound --goal x b s l t' 'optimal --goal 0 p s l t' 'solve --goal x b s o t' \
+    'prove --goal x c s t' 'parts --goal x b 6 3 a' '--goal last'; do
+    # shellcheck disable=SC2086
+    run $words
+    check "wrong words: $words" told_a_mistake
+done
+
 #
 # Names of files.
 #
@@ -431,6 +461,12 @@ echo '3 0 1 2' >another_board
 echo '1 0 2 3' >next_board
 either_way 1 'refused L5' F123 leaf : bound another_board one_set leaf F123
 either_way 0 'optimal 6' F12 branches : optimal six_moves one_set branches F12
+echo '0 3 2 1' >board_last
+either_way 0 'bound 6 with the blank last' F12 branches : bound --goal last board_last one_set branches F12
+either_way 0 'optimal 6 with the blank last' F12 branches : optimal --goal last six_moves_last one_set branches F12
+either_way 1 'refused L5' F12 branches : bound --goal last board one_set branches F12
+either_way 1 'refused L5' F12 branches : bound board_last one_set branches F12
+either_way 1 'refused M4' F12 branches : optimal --goal last six_moves one_set branches F12
 echo '3 2 1 0 ; ULDRULRL' >eight_moves
 either_way 1 'refused O1 solution 8 bound 6' F12 branches : optimal eight_moves one_set branches F12
 either_way 1 'refused T7 at entry 14 of table 0' F123_with_02 leaf : bound board one_set leaf F123_with_02
@@ -611,6 +647,16 @@ proves_each_way false_claims one_set F12 1 'refused O2 by ULDRUL of 3 2 1 0 : 7'
     'refused O2 by L of 1 0 2 3 ; DULRL' 'refused O2 by L of 1 0 2 3 : 2' 'refused M2 at step 0 of 3 2 1 0 ; R' \
     'refused M2 at step 2 of 3 2 1 0 ; ULU' 'refused M4 of 3 2 1 0 ; U' 'refused M4 of 3 2 1 0 ;' 'refused K2 of 0 1 3 2' \
     'refused K2 of 0 1 3 2 : 0' 'refused M4 of 0 1 3 2 ; R'
+# The same with the blank last, of the boards and moves turned by half a turn.
+printf '%s\n' '0 3 2 1' '0 3 2 1 : 6' '0 3 2 1;DR ULDR' '1 2 3 0' '1 2 3 0 : 0' >true_claims_last
+proves true_claims_last one_set F12 0 'optimal 6 of 0 3 2 1 ; DRULDR with the blank last' 'bound 6 of 0 3 2 1 with the blank last' \
+    'optimal 6 of 0 3 2 1 ; DRULDR with the blank last' 'optimal 0 of 1 2 3 0 ; with the blank last' \
+    'bound 0 of 1 2 3 0 with the blank last' : --goal last
+printf '%s\n' '0 3 2 1 : 7' '0 3 2 1 ; DRULDRLR' '1 2 0 3 ; LR' '0 3 2 1 ; D' '0 1 2 3' '0 3 2 1 : 6' >false_claims_last
+proves false_claims_last one_set F12 1 'refused O2 by DRULDR of 0 3 2 1 : 7 with the blank last' \
+    'refused O2 by DRULDR of 0 3 2 1 ; DRULDRLR with the blank last' 'refused M2 at step 0 of 1 2 0 3 ; LR with the blank last' \
+    'refused M4 of 0 3 2 1 ; D with the blank last' 'refused K2 of 0 1 2 3 with the blank last' \
+    'bound 6 of 0 3 2 1 with the blank last' : --goal last --workers 2
 # No board is expanded for a claim of which the sets say enough, or whose board is the goal board.
 printf '%s\n' '3 2 1 0' '3 2 1 0 : 6' '3 2 1 0 ; LURDLU' '0 1 2 3' '1 0 2 3 : 1' '3 2 1 0 : 4' >claims_of_few_boards
 for words in '--budget 1' '--budget 1 --fold' '--workers 7 --budget=1'; do
@@ -619,6 +665,25 @@ for words in '--budget 1' '--budget 1 --fold' '--workers 7 --budget=1'; do
         'refused K1 of 3 2 1 0 ; LURDLU' 'optimal 0 of 0 1 2 3 ;' 'bound 1 of 1 0 2 3' 'bound 4 of 3 2 1 0' : $words
 done
 proves true_claims one_set F12 0 "${true_answers[@]}" : --budget 1000000000000
+proves true_claims one_set F12 0 "${true_answers[@]}" : --goal first
+
+# Where the blank is last at home, each answer says so: boards and moves are those above, turned by half a turn.
+printf '%s\n' '0 3 2 1' '0 3 2 1 : 6' '0 3 2 1 ; DR ULDR' '0 3 2 1;RDLURD' '1 2 3 0 ;' '1 2 3 0' '1 2 0 3 : 1' '0 3 2 1 : 6 part 0/1' \
+    >true_last
+printf '%s\n' '0 3 2 1 : 7' '0 3 2 1 ; DRULDRLR' '1 2 0 3 ; LR' '1 2 0 3 ; UDRLR' '0 3 2 1 ; D' '0 1 2 3' '0 1 2 3 ; D' \
+    '0 3 2 1 : 7 part 0/1' >false_last
+last=' with the blank last'
+for words in '--goal last' '--goal last --workers 7' '--fold --goal last'; do
+    # shellcheck disable=SC2086
+    proves true_last one_set F12 0 "optimal 6 of 0 3 2 1 ; DRULDR$last" "bound 6 of 0 3 2 1$last" "optimal 6 of 0 3 2 1 ; DRULDR$last" \
+        "optimal 6 of 0 3 2 1 ; RDLURD$last" "optimal 0 of 1 2 3 0 ;$last" "optimal 0 of 1 2 3 0 ;$last" "bound 1 of 1 2 0 3$last" \
+        "part 0/1 of bound 6 of 0 3 2 1$last" : $words
+    # shellcheck disable=SC2086
+    proves false_last one_set F12 1 "refused O2 by DRULDR of 0 3 2 1 : 7$last" "refused O2 by DRULDR of 0 3 2 1 ; DRULDRLR$last" \
+        "refused M2 at step 0 of 1 2 0 3 ; LR$last" "refused O2 by R of 1 2 0 3 ; UDRLR$last" "refused M4 of 0 3 2 1 ; D$last" \
+        "refused K2 of 0 1 2 3$last" "refused M4 of 0 1 2 3 ; D$last" "refused O2 by DRULDR of 0 3 2 1 : 7 part 0/1$last" : $words
+done
+proves true_last one_set F24 1 'refused Q2 at line 0' : --goal last
 
 # The first line that is no claim comes before faults of tables and sets: no_claim LINE TEXT
 no_claim() {
@@ -705,9 +770,11 @@ joins 'what prove wrote of all parts' "$all_of_3" board 6 3 part_lines
 # Of the others, digests aside, none is of these parts.
 input=board
 skipped='7 of 14'
+first='line 3 of other_part_lines: refused O2 by ULDRUL of 3 2 1 0 : 7 part 0/1'
 joins 'parts of a board on standard input' "$all_of_3" - 6 3 other_part_lines part_lines
 input=/dev/null
 skipped='10 of 14'
+first='line 3 of part_lines: part 0/3 of bound 6 of 3 2 1 0'
 expect 'parts of another bound' 1 '3 2 1 0 : 5 part 0/1' : parts board 5 1 part_lines other_part_lines
 expect 'parts of another count' 1 '3 2 1 0 : 6 part 0/1' : parts board 6 1 part_lines other_part_lines
 skipped='3 of 5'
@@ -722,6 +789,7 @@ expect 'a last line that is cut' 1 '3 2 1 0 : 6 part 1/3' : parts board 6 3 line
 echo >>cut_line
 joins 'the same line, whole' "$all_of_3" board 6 3 lines_without_1 cut_line
 skipped='2 of 9'
+first='line 1 of malformed_lines: part 01/3 of bound 6 of 3 2 1 0'
 printf '%s\n' 'part 01/3 of bound 6 of 3 2 1 0' $'part 1/3 of bound 6 of 3 2 1 0\r' >malformed_lines
 joins 'malformed lines, and a part that is told twice' "$all_of_3" board 6 3 malformed_lines part_lines cut_line cut_line
 skipped=
@@ -738,6 +806,7 @@ expect 'a part that a budget ended' 1 '3 2 1 0 : 6 part 1/3' : parts board 6 3 s
 ended=
 joins 'parts that a budget ended at first' "$all_of_3" board 6 3 spent_lines part_lines
 skipped='6 of 9'
+first='line 3 of other_part_lines: refused O2 by ULDRUL of 3 2 1 0 : 7 part 0/1'
 expect 'a part of a board without a solution' 1 '0 1 3 2 : 0 part 0/1' : parts <(echo '0 1 3 2') 0 1 other_part_lines
 skipped=
 
@@ -754,16 +823,114 @@ expect 'the first of two refutations' 1 'refused O2 by LURDLU of 3 2 1 0 : 7' : 
 skipped='1 of 1'
 for moves in ULDRU ULDRUX ULDRULLR UU ''; do
     echo "refused O2 by${moves:+ }$moves of 3 2 1 0 : 7 part 0/1" >moves_line
+    first="line 1 of moves_line: $(cat moves_line)"
     expect "the moves $moves, which refute nothing" 1 '3 2 1 0 : 7 part 0/1' : parts board 7 1 moves_line
 done
 echo 'refused O2 by ULDRUL of 3 2 1 0 : 6 part 0/1' >moves_line
+first="line 1 of moves_line: $(cat moves_line)"
 expect 'as many moves as the bound' 1 '3 2 1 0 : 6 part 0/1' : parts board 6 1 moves_line
 for claim in '3 2 1 0 : 7 part 1/1' '3 2 1 0 : 7 part 0/3' '3 2 1 0 : 8 part 0/1' '3 2 1 0 : 7' '3 2 1 0 : 7 part 0/1 ' \
     '3 2 1 0 : 7 part 00/1' '3 2 1 0 ; ULDRUL'; do
     echo "refused O2 by ULDRUL of $claim" >moves_line
+    first="line 1 of moves_line: $(cat moves_line)"
     expect "moves that refute '$claim'" 1 '3 2 1 0 : 7 part 0/1' : parts board 7 1 moves_line
 done
 skipped=
+
+# The first line that is skipped is quoted: of N and K the wrong way round, with a CR, behind the name of a host, long, and with bytes
+# that aren't printed.
+open_of_5=('3 2 1 0 : 3 part 0/5' '3 2 1 0 : 3 part 1/5' '3 2 1 0 : 3 part 2/5' '3 2 1 0 : 3 part 3/5' '3 2 1 0 : 3 part 4/5')
+printf '%s\n' 'part 0/3 of bound 5 of 3 2 1 0' 'part 1/3 of bound 5 of 3 2 1 0' 'part 2/3 of bound 5 of 3 2 1 0' >lines_of_5
+skipped='3 of 3'
+first='line 1 of lines_of_5: part 0/3 of bound 5 of 3 2 1 0'
+expect 'N and K the wrong way round' 1 "${open_of_5[@]}" : parts board 3 5 lines_of_5
+skipped='1 of 1'
+long_line=$(printf 'part 0/1 of bound 6 of 3 2 1 0%171s' x)
+for line in $'part 0/1 of bound 6 of 3 2 1 0\r' 'node1: part 0/1 of bound 6 of 3 2 1 0' "$long_line" $'\xff\t~ \x7f'; do
+    printf '%s\n' "$line" >$'first\nlines'
+    quoted=$(head -c 160 <<<"$line" | LC_ALL=C sed 's/[^ -~]/?/g')
+    first="line 1 of first?lines: $quoted"
+    expect "the first line is '$quoted'" 1 '3 2 1 0 : 6 part 0/1' : parts board 6 1 $'first\nlines'
+done
+# Lines that say nothing are none.
+skipped='1 of 8'
+first='line 5 of remarks: x'
+{ printf '\n# part 0/3 of bound 6 of 3 2 1 0\n#\n\nx\n' && sed -n 3p part_lines; } >remarks
+expect 'a stray line behind empty ones and remarks' 1 '3 2 1 0 : 6 part 1/3' : parts board 6 3 remarks <(sed -n 5p part_lines; echo '#')
+skipped='1 of 2'
+first='line 1 of remarks:  #'
+printf ' #\n#\n' >remarks
+expect 'a remark behind a space' 1 '3 2 1 0 : 6 part 0/1' : parts board 6 1 remarks
+skipped=
+rm lines_of_5 remarks $'first\nlines'
+
+# With the blank last, lines that say so count, and no others; moves are played to that goal.
+echo '0 3 2 1' >board_last
+for index in 0 1 2; do
+    echo "part $index/3 of bound 6 of 0 3 2 1 with the blank last"
+done >lines_last
+all_last='joined bound 6 of 0 3 2 1 from 3 parts, by lines that were read, with the blank last'
+joins 'parts with the blank last' "$all_last" board_last 6 3 lines_last --goal last
+open_last=('0 3 2 1 : 6 part 0/3' '0 3 2 1 : 6 part 1/3' '0 3 2 1 : 6 part 2/3')
+skipped='3 of 3'
+first="line 1 of lines_last: $(head -n 1 lines_last)"
+expect 'parts with the blank last, for the blank first' 1 "${open_last[@]}" : parts board_last 6 3 lines_last
+expect 'the same, with the goal named' 1 "${open_last[@]}" : parts board_last 6 3 lines_last --goal first
+sed 's/ with .*//' lines_last >lines_first
+first="line 1 of lines_first: $(head -n 1 lines_first)"
+expect 'parts with the blank first, for the blank last' 1 "${open_last[@]}" : parts board_last 6 3 lines_first --goal last
+skipped=
+echo 'refused O2 by DRULDR of 0 3 2 1 : 7 part 0/1 with the blank last' >refuted_last
+expect 'a refuted part with the blank last' 1 'refused O2 by DRULDR of 0 3 2 1 : 7 with the blank last' : \
+    parts board_last 7 1 refuted_last --goal last
+echo 'refused K1 of 0 3 2 1 : 6 part 1/3 with the blank last' >spent_last
+ended='1 of 3'
+expect 'a part with the blank last that a budget ended' 1 '0 3 2 1 : 6 part 1/3' : \
+    parts board_last 6 3 spent_last <(sed 2d lines_last) --goal last
+ended=
+# Moves to the other goal show nothing: these lead from the board to 0 1 2 3.
+skipped='1 of 1'
+echo 'refused O2 by ULDRUL of 3 2 1 0 : 7 part 0/1 with the blank last' >refuted_last
+first="line 1 of refuted_last: $(cat refuted_last)"
+expect 'moves to the other goal' 1 '3 2 1 0 : 7 part 0/1' : parts board 7 1 refuted_last --goal last
+skipped=
+
+# Bounds and moves of several claims, joined by a script.
+ln -s "$program" pdb_cli
+joins_claims() {
+    status=0
+    printf '%s\n' "${claims[@]}" | "$root/tools/claims/join_claims.py" /dev/stdin "${@:3}" >"$work/output" 2>"$work/errors" || status=$?
+    check "$1" wrote "$2" "${joined[@]}"
+}
+digest=$(sha256sum <part_lines)
+claims=('3 2 1 0 : 6' '3 2 1 0 ; ULDRUL')
+joined=("sha256 ${digest%% *}" "$all_of_3" "$all_of_3" 'solution 6'
+    'join_claims.py: 6 moves are the fewest of 3 2 1 0 ; ULDRUL, by a replay and by 3 parts whose lines were read'
+    'join_claims.py: 2 of 2 claims hold by what was read')
+joins_claims 'claims that lines and moves give' 0 other_part_lines part_lines
+claims=('3 2 1 0 : 7' '3 2 1 0 : 5' '3 2 1 0 ; ULDRULL' '0 1 2 3 : 0')
+joined=('refused O2 by ULDRUL of 3 2 1 0 : 7' 'join_claims.py: no line tells of a part of bound 5 of 3 2 1 0' 'refused M2 at step 6'
+    "join_claims.py: the moves don't solve 3 2 1 0 ; ULDRULL" 'join_claims.py: open are 62 of 63 parts of bound 0 of 0 1 2 3'
+    'join_claims.py: 0 of 4 claims hold by what was read')
+joins_claims 'claims that lines and moves do not give' 1 part_lines other_part_lines
+digest=$(sha256sum <lines_last)
+claims=('0 3 2 1 ; DRULDR')
+joined=("sha256 ${digest%% *}" "$all_last" 'solution 6 with the blank last'
+    'join_claims.py: 6 moves are the fewest of 0 3 2 1 ; DRULDR, by a replay and by 3 parts whose lines were read, with the blank last'
+    'join_claims.py: 1 of 1 claims hold by what was read')
+joins_claims 'claims with the blank last' 0 part_lines lines_last --goal last
+# Parts are answered round after round.
+mkdir rounds
+ln -s ../{pdb_cli,board,board_last,one_set,F12} rounds
+for words in 'board 6 3' '--goal last board_last 6 3'; do
+    status=0
+    # shellcheck disable=SC2086
+    (cd rounds && "$root/tools/claims/parts.sh" $words ./pdb_cli prove - one_set F12) >"$work/output" 2>"$work/errors" || status=$?
+    said=$all_of_3
+    [[ $words == board* ]] || said=$all_last
+    check "rounds of $words" [ "$status.$(head -n 1 "$work/output").$(tail -n 1 "$work/output")" = "0.round 1: 3 of 3 parts open.$said" ]
+done
+rm -r pdb_cli rounds
 
 expect 'parts of a text that is no board' 1 'refused B3 count 0' : parts /dev/null 6 3 part_lines
 expect 'parts of a board that is not there' 2 'fault read B' : parts B 6 3 part_lines
@@ -852,6 +1019,7 @@ limit_memory prove true_claims one_set F12 --workers 7
 limit_memory prove false_claims one_set F12 --workers 64 --fold
 limit_memory prove part_claims one_set F12 --workers 7
 skipped='4 of 6'
+first='line 3 of part_lines: part 0/3 of bound 6 of 3 2 1 0'
 limit_memory parts board 6 65535 part_lines
 skipped=
 rm -f made
@@ -1025,6 +1193,11 @@ status=0
 check 'a search names the files that are checked' [ "$status.$(tail -n 1 "$work/output")" = '0.optimal 20' ]
 check 'each with its number' told_files 'tiles_1_to_4, 1 of 3' 'tiles_5_to_8, 2 of 3'
 check 'and tells how fast it goes' grep -Eqx 'pdb_cli: below [0-9]+: [0-9]+ boards, [0-9]+ a second' "$work/errors"
+blank_first='pdb_cli: home has the blank first: --goal last has it last'
+check 'and first where the blank is at home' [ "$(head -n 1 "$work/errors")" = "$blank_first" ]
+status=0
+(export PDB_PROGRESS=1 && exec "$bare" replay solved) >"$work/output" 2>"$work/errors" || status=$?
+check 'not of a board of side 2 that has a solution' [ "$status.$(cat "$work/output" "$work/errors")" = '0.solution 6' ]
 status=0
 (export PDB_PROGRESS=1 LD_PRELOAD=$work/step_clock.so && exec "$bare" make-table 3 510 made --replace) \
     >"$work/output" 2>"$work/errors" || status=$?
@@ -1033,9 +1206,14 @@ check 'a table is told while it is made and while it is checked' told_kinds \
     'made, N of N: N percent of N blocks or lemmas begun'
 rm made tiles_1_to_4 tiles_5_to_8 sets board_of_3
 
-# Each search of a claim tells its pace, and no shares.
+# Before the paces of a search of a claim comes where the blank is at home: on side 3 a board has a solution with the blank last where it
+# has one with the blank first. Each search tells its pace, and no shares. In the end the claim is told, and all of them.
 told_paces_alone() {
-    [ -s "$work/errors" ] && ! grep -Evqx 'pdb_cli: claim 0, below [0-9]+: [0-9]+ boards, [0-9]+ a second' "$work/errors"
+    [ "$(head -n 1 "$work/errors")" = "$blank_first" ] && tail -n +2 "$work/errors" >"$work/paces" &&
+        grep -Eqx 'pdb_cli: claim 0, below [0-9]+: [0-9]+ boards, [0-9]+ a second' "$work/paces" &&
+        ! head -n -2 "$work/paces" | grep -Evqx 'pdb_cli: claim 0, below [0-9]+: [0-9]+ boards, [0-9]+ a second' &&
+        tail -n 2 "$work/paces" | head -n 1 | grep -Eqx 'pdb_cli: claim 0: [0-9]+ boards in [0-9]+\.[0-9] seconds, [0-9]+ a second' &&
+        [ "$(tail -n 1 "$work/paces")" = 'pdb_cli: 1 claim: 1 bound' ]
 }
 echo '8 0 6 5 4 7 2 3 1 : 29' >claims
 run prove claims one_set three_of_side_3
@@ -1048,6 +1226,9 @@ for workers in 1 4; do
     check "progress of $workers workers leaves the answer to a claim" same_line_and_status
     check "$workers workers tell paces alone" told_paces_alone
 done
+status=0
+PDB_PROGRESS=1 "$bare" prove false_claims one_set F12 >"$work/output" 2>"$work/errors" || status=$?
+check 'how many claims were answered how' [ "$status.$(tail -n 1 "$work/errors")" = '1.pdb_cli: 13 claims: 1 bound, 12 refused' ]
 
 #
 # Changed inputs.
@@ -1193,6 +1374,17 @@ for workers in 1 2 7; do
     solved board 6 one_set F12 --fold --workers "$workers"
 done
 check 'the same log over folded tables' cmp -s by_parity made
+rm -f made
+digest=$(sha256sum <F12)
+log_digest=$(sha256sum <by_parity)
+expect 'solve with the blank last' 0 "sha256 ${digest%% *}" "sha256 ${log_digest%% *}" 'moves DRULDR with the blank last' \
+    'optimal 6 with the blank last' : solve --goal last board_last one_set made F12
+check 'its log is that of the turned board' cmp -s by_parity made
+either_way 0 'bound 6 with the blank last' F12 made : bound --goal last board_last one_set made F12
+either_way 0 'optimal 6' F12 made : optimal six_moves one_set made F12
+echo '1 2 3 0' >home_last
+run solve --goal last home_last one_set made F123
+check 'solve of home with the blank last' [ "$(tail -n 2 "$work/output")" = $'moves with the blank last\noptimal 0 with the blank last' ]
 solved board 6 pair 'F12 F3' --fold
 solved board 6 mirror F12 --fold
 rm -f made

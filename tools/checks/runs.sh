@@ -24,8 +24,10 @@ cd "$work/files" || exit 2
 passed=0
 failed=0
 input=/dev/null
-# How many lines a run of `parts` skips, as `1 of 5`, where it skips any; and of how many open parts a budget ended the search.
+# How many lines a run of `parts` skips, as `1 of 5`, where it skips any, and the first, as `line 2 of F: x`; and of how many open
+# parts a budget ended the search.
 skipped=
+first=
 ended=
 
 # Runs the program with these words, and keeps what it writes and its status.
@@ -48,11 +50,12 @@ check() {
 }
 
 # Whether standard error has nothing, or, where the answer was no yes, one sentence that says why; and before that, of an answer for
-# which lines are skipped or a budget ended searches, the lines that say of how many.
+# which lines are skipped or a budget ended searches, the lines that say of how many, and which is the first.
 told_at_most_why() {
     local besides=$work/errors lines=()
     if [ "$status" -lt 2 ]; then
-        [ -z "$skipped" ] || lines+=("pdb_cli: lines that tell of no part of this bound, and were skipped: $skipped")
+        [ -z "$skipped" ] || lines+=("pdb_cli: lines that tell of no part of this bound, and were skipped: $skipped"
+            "pdb_cli: the first of them is $first")
         [ -z "$ended" ] || lines+=("pdb_cli: parts that are open since a budget ended their search: $ended")
     fi
     if [ "${#lines[@]}" != 0 ]; then
@@ -83,11 +86,12 @@ expect() {
     check "$name" wrote "$wanted" "${lines[@]}"
 }
 
-# Answers must be joined by their digests and this line: joins NAME LINE BOARD N K ANSWERS..
+# Answers must be joined by their digests and this line: joins NAME LINE BOARD N K ANSWERS.. [--goal last]
 joins() {
     local name=$1 line=$2 lines=() file digest
     shift 2
     for file in "${@:4}"; do
+        [ "$file" != --goal ] || break
         digest=$(sha256sum <"$file")
         lines+=("sha256 ${digest%% *}")
     done

@@ -54,7 +54,10 @@ TELLING = bytes([0, 1, 2, 3, 4, 8, 16, 17, 32, 65, 128, 252, 253, 254, 255]) + b
 # The names of what a run writes and reads by its standard streams, in its folder.
 STREAMS = [".in", ".out", ".err"]
 # What `parts` tells beside its answer.
-SKIPPED = rb"pdb_cli: lines that tell of no part of this bound, and were skipped: \d+ of \d+\n"
+SKIPPED = (
+    rb"pdb_cli: lines that tell of no part of this bound, and were skipped: \d+ of \d+\n"
+    rb"pdb_cli: the first of them is line \d+ of [ -~]+: [ -~]{0,160}\n"
+)
 ENDED = rb"pdb_cli: parts that are open since a budget ended their search: \d+ of \d+\n"
 
 

@@ -5,7 +5,8 @@
 
 CLAIMS is a file with a line `BOARD : N` for each board. Of each, the bounds that are 6, 4 and 2 moves lower come before N. A
 threshold takes six to ten times as long as the one two moves lower. So the first two aren't cut: the second is about as long
-as one of some dozens of parts of the last. The last two have K parts each. COMMAND is that of parts.sh, with --tasks T before it.
+as one of some dozens of parts of the last. The last two have K parts each. COMMAND is that of parts.sh, with --tasks T and --goal last
+before it.
 
 After each bound it says how long that took, and how long the board may still take, if the bound took ten seconds or more. Both
 have the check of the tables in them, so over large tables they are too high at first. With PDB_PROGRESS=1 in the environment
@@ -46,8 +47,10 @@ def read_claims(name):
 def ask(board, bound, parts, command):
     """Runs parts.sh on a bound: None if it holds, and the moves that show it to be false where it is."""
     pathlib.Path("board.now").write_text(board + "\n", encoding="ascii")
-    options, rest = (command[:2], command[2:]) if command[0] == "--tasks" else ([], command)
-    words = ["./parts.sh", *options, "board.now", str(bound), parts, *rest]
+    options = 0
+    while command[options] in ("--tasks", "--goal"):
+        options += 2
+    words = ["./parts.sh", *command[:options], "board.now", str(bound), parts, *command[options:]]
     with subprocess.Popen(words, stdout=subprocess.PIPE, text=True) as run:
         last = ""
         for line in run.stdout:
@@ -56,7 +59,7 @@ def ask(board, bound, parts, command):
                 print(f"  {bound}: {line}", end="", flush=True)
     if run.returncode == 0:
         return None
-    false = re.fullmatch(rf"refused O2 by (\w*) ?of {board} : {bound}\n", last)
+    false = re.fullmatch(rf"refused O2 by (\w*) ?of {board} : {bound}( with the blank last)?\n", last)
     if not false:
         sys.exit(f"{last}many_boards.py: stopped at {board} : {bound}")
     return false[1]

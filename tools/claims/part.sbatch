@@ -2,7 +2,7 @@
 # A task of a Slurm array that answers its share of the claims in the file `open`: of T tasks, numbered from 0, task I takes
 # each Tth line from its own on. All processors that Slurm gives it share one run, and so one copy of the tables in memory.
 #
-#     sbatch --array=0-14 part.sbatch SETS TABLES..
+#     sbatch --array=0-14 part.sbatch SETS TABLES.. [--goal last]
 #
 # Each answer is added to the task's file as soon as it is proved, so a task that is killed loses only the claim that it was
 # at. One that Slurm starts again goes on from there: it claims what no line of `answers` has answered yet.
@@ -19,8 +19,11 @@ set -uo pipefail
 # The claims that a line of `answers` says yes to. A last line without its end is none: with the dot it fits no claim.
 answered() {
     { cat answers/*.lines && echo .; } |
-        sed -n 's|^part \([0-9/]*\) of bound \([0-9]*\) of \([0-9 ]*\)$|\3 : \2 part \1|p'
+        sed -n "s|^part \\([0-9/]*\\) of bound \\([0-9]*\\) of \\([0-9 ]*\\)$end\$|\\3 : \\2 part \\1|p"
 }
+
+end=
+[[ " $* " != *' --goal last '* ]] || end=' with the blank last'
 
 share=$(sed -n "$((SLURM_ARRAY_TASK_ID + 1))~${SLURM_ARRAY_TASK_COUNT}p" open) || exit
 claims=$(grep -vxFf <(answered) <<<"$share")

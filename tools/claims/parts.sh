@@ -1,11 +1,12 @@
 #!/usr/bin/env bash
 # Has the parts of a bound answered, round after round, until they say the bound.
 #
-#     parts.sh [--tasks T] BOARD N K COMMAND..
+#     parts.sh [--tasks T] [--goal last] BOARD N K COMMAND..
 #
 # In each round the claims of the parts that are still open go to the file `open`, and COMMAND has them answered. It reads
 # the claims and writes the answers; or it is `sbatch .. part.sbatch SETS TABLES..`, whose array then has a task for each
-# open claim, but at most T tasks. What it writes is shown, and kept in answers/command.lines and answers/command.errors.
+# open claim, but at most T tasks. What it writes is shown, and kept in answers/command.lines and answers/command.errors. The
+# goal is handed on to `parts`, and to COMMAND as its last words.
 #
 # It runs in a folder with the file BOARD and `pdb_cli` (a copy of out/pdb_cli). It makes the folder `answers` there, and
 # reads the files answers/*.lines. It may be stopped and started again; one at a time in a folder. The status is 0 if the
@@ -24,7 +25,7 @@ stop() {
 # bound, and ends.
 find_open() {
     local status=0 said
-    said=$(./pdb_cli parts "$board" "$bound" "$parts" /dev/null answers/*.lines 2>&1 >open.new) || status=$?
+    said=$(./pdb_cli parts "$board" "$bound" "$parts" /dev/null answers/*.lines "${goal[@]}" 2>&1 >open.new) || status=$?
     if grep '^refused O2 by ' open.new; then
         rm -f open.new
         stop 'the bound is false: these moves are fewer'
@@ -46,13 +47,17 @@ find_trouble() {
     cat /dev/null answers/*.lines | grep -E '^(refused|fault|no memory)' | sort
 }
 
-most=0
-if [ "${1-}" = --tasks ]; then
-    most=${2-}
-    shift 2
-fi
+most=0 goal=()
+while [[ ${1-} == --* ]]; do
+    case $1 in
+    --tasks) most=${2-} ;;
+    --goal) goal=(--goal "${2-}") ;;
+    *) break ;;
+    esac
+    shift 2 || shift
+done
 if [ "$#" -lt 4 ] || [[ ! $most =~ ^(0|[1-9][0-9]{0,4})$ ]]; then
-    echo 'usage: parts.sh [--tasks T] BOARD N K COMMAND..' >&2
+    echo 'usage: parts.sh [--tasks T] [--goal last] BOARD N K COMMAND..' >&2
     exit 2
 fi
 board=$1 bound=$2 parts=$3
@@ -65,7 +70,7 @@ for ((round = 1; ; round++)); do
     echo "round $round: $count of $parts parts open$( ((most == 0)) || echo ", tasks: $tasks")"
     status=0
     # These two are what sbatch reads in place of --wait and --array.
-    SBATCH_WAIT=1 SBATCH_ARRAY_INX=0-$((tasks - 1)) "$@" <open 2> >(tee -a answers/command.errors >&2) |
+    SBATCH_WAIT=1 SBATCH_ARRAY_INX=0-$((tasks - 1)) "$@" "${goal[@]}" <open 2> >(tee -a answers/command.errors >&2) |
         tee -a answers/command.lines || status=$?
     find_open
     trouble=$(comm -13 <(echo "$known") <(find_trouble) | uniq)

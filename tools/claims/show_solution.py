@@ -5,7 +5,7 @@
     tools/claims/show_solution.py answers --svg solutions.svg
 
 The lines are those of a file or of standard input: puzzle texts, claims with moves, or what `prove` answers (`optimal N of BOARD ;
-MOVES`). Other lines are passed over. The boards are printed one below the other, each under the number and the letter of the move
+MOVES`, perhaps ` with the blank last`). Other lines are passed over. The boards are printed one below the other, each under the number and the letter of the move
 that leads to it; with `--svg FILE` they are drawn as a strip, with the tile that has just moved in colour. Nothing is checked but
 that each move stays on the board: the program is what checks. The status is 1 where no line is shown, or a move leaves the board.
 """
@@ -25,7 +25,7 @@ CELL, GAP, ACROSS = 22, 16, 10
 def solutions(lines):
     """The board and the letters of each line that has them."""
     for line in lines:
-        found = re.fullmatch(r"(?:optimal \d+ of )?([\d\s]+);([UDLR\s]*)", line.strip())
+        found = re.fullmatch(r"(?:optimal \d+ of )?([\d\s]+);([UDLR\s]*?)(?: with the blank last)?", line.strip())
         board = found and tuple(map(int, found[1].split()))
         if found and len(board) in (4, 9, 16, 25) and sorted(board) == list(range(len(board))):
             yield board, "".join(found[2].split())

@@ -49,7 +49,7 @@ module _ (arguments : SolveArguments) (check : LogArguments) (of : IsOfSearch ar
     (had : old.files ≡ Some before) (same : later.files ≡ mid.files) (kept : IsLogKept arguments old mid) where
   -- the log that was kept and the files that were read for it, as a claim
   abbrev claim : Given
-  claim = log_claim Bound (log_files arguments.fold kept.found.board_text kept.found.set_text kept.log kept.files)
+  claim = log_claim Bound (log_files arguments.goal arguments.fold kept.found.board_text kept.found.set_text kept.log kept.files)
 
   -- the files that are read are those
   same_files : (files : LogFiles) → LogStood (Some (with_file before arguments.out kept.log)) later.reader check files
@@ -64,7 +64,7 @@ module _ (arguments : SolveArguments) (check : LogArguments) (of : IsOfSearch ar
       let some_log : Some files.log ≡ Some log = sym (rw of.log at is.log) ∙ file-kept before arguments.out log in
       let same_log : files.log ≡ log = cc in
       let tables = tables_read before arguments.out log _ _ arguments.tables kept.files files.tables not_tables was.tables (rw of.tables at is.tables) in
-      λ i. log_claim Bound (log_files (of.fold i) (text i) (sets i) (same_log i) (tables i))
+      λ i. log_claim Bound (log_files (of.goal i) (of.fold i) (text i) (sets i) (same_log i) (tables i))
 
   taken_by : IsAnswered (log_check_plan Bound check) later new status → IsTaken arguments old mid later new status
   taken_by a =

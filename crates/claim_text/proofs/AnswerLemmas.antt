@@ -15,10 +15,14 @@ use Rattle.puz_board.specs.Boards.{IsBoard, at, side_of, side_of_count}
 use Rattle.puz_board.specs.Cells.{move_of_letter}
 use Rattle.puz_board.specs.MovesTexts.{is_letter}
 use Rattle.puz_board.proofs.BoardLemmas.{cells_most}
+use Rattle.puz_goal.specs.declared.goals.Goal.{Goal}
+use Rattle.puz_goal.specs.declared.goals.Goal.TheVariants.{First, Last}
+use Rattle.puz_goal.specs.Goals.{goal_words}
 use Rattle.move_strings.specs.BoundParts.{ShownPart}
 use Rattle.claim_text.specs.Claims.{HasNo, ShownAsks, ShownClaim, bound, letters, moves, part, part_words, shortest}
 use Rattle.claim_text.specs.Laws.{AnswersAreLines, AnswersBegin}
-use Rattle.claim_text.specs.Lines.{asks_words, bounded, claim_words, numbers, optimal, part_bounded, refused, shorter, spaced_letters}
+use Rattle.claim_text.specs.Lines.{Told, WhatHasNoLf, asks_words, beginning, bounded, claim_words, numbers, optimal, part_bounded, refused, shorter}
+use Rattle.claim_text.specs.Lines.{spaced_letters, told_words}
 use Rattle.claim_text.proofs.DecimalLemmas.{decimal-no}
 
 -- ---- how much room they take
@@ -111,48 +115,54 @@ of_no_lf : (front words : List ℕ) → HasNo 10 front → HasNo 10 words → Ha
 of_no_lf front words p q =
     join_no_lf (front ++ codes " of") words (join_no_lf front (codes " of") p (known (codes " of") refl)) q
 
--- a line that answers a claim has no LF before its end
-pub answer-no_lf : AnswersAreLines
-answer-no_lf (bounded n b) what = of_no_lf (codes "bound " ++ decimal n) (numbers b)
+-- nor do the words of an answer
+words-no_lf : (told : Told) → WhatHasNoLf told → HasNo 10 (told_words told)
+words-no_lf (bounded n b) what = of_no_lf (codes "bound " ++ decimal n) (numbers b)
     (join_no_lf (codes "bound ") (decimal n) (known (codes "bound ") refl) (decimal-no_lf n)) (numbers-no_lf b)
-answer-no_lf (part_bounded p n b) what =
+words-no_lf (part_bounded p n b) what =
     let one = join_no_lf (codes "part ") (part_words p) (known (codes "part ") refl) (part-no_lf p) in
     let more = join_no_lf (codes "part " ++ part_words p) (codes " of bound ") one (known (codes " of bound ") refl) in
     of_no_lf (codes "part " ++ part_words p ++ codes " of bound " ++ decimal n) (numbers b)
     (join_no_lf (codes "part " ++ part_words p ++ codes " of bound ") (decimal n) more (decimal-no_lf n)) (numbers-no_lf b)
-answer-no_lf (optimal n b text) what =
+words-no_lf (optimal n b text) what =
     of_no_lf (codes "optimal " ++ decimal n) (claim_words (record { board = b; asks = moves text }))
     (join_no_lf (codes "optimal ") (decimal n) (known (codes "optimal ") refl) (decimal-no_lf n))
     (claim-no_lf (record { board = b; asks = moves text }))
-answer-no_lf (shorter solution claim) what =
+words-no_lf (shorter solution claim) what =
     of_no_lf (codes "refused O2 by" ++ spaced_letters solution) (claim_words claim)
     (join_no_lf (codes "refused O2 by") (spaced_letters solution) (known (codes "refused O2 by") refl) (spaced-no_lf solution)) (claim-no_lf claim)
-answer-no_lf (refused what claim) none = of_no_lf what (claim_words claim) none (claim-no_lf claim)
+words-no_lf (refused what claim) none = of_no_lf what (claim_words claim) none (claim-no_lf claim)
 
-regroup : (a b c d e : List ℕ) → (((a ++ b) ++ c) ++ d) ++ e ≡ a ++ (b ++ (c ++ (d ++ e)))
-regroup a b c d e = simp append_assoc
+pub goal-no_lf : (goal : Goal) → HasNo 10 (goal_words goal)
+goal-no_lf First = All-nil (λ b. not (eqb b 10) ≡ true)
+goal-no_lf Last = known (goal_words Last) refl
+
+-- a line that answers a claim has no LF before its end
+pub answer-no_lf : AnswersAreLines
+answer-no_lf goal told what = join_no_lf (told_words told) (goal_words goal) (words-no_lf told what) (goal-no_lf goal)
 
 regroup_four : (a b c d : List ℕ) → ((a ++ b) ++ c) ++ d ≡ a ++ (b ++ (c ++ d))
 regroup_four a b c d = simp append_assoc
 
+words_begin : (told : Told) → (rest : List ℕ) × (told_words told ≡ beginning told ++ rest)
+words_begin (bounded n b) = (decimal n ++ (codes " of" ++ numbers b), regroup_four (codes "bound ") (decimal n) (codes " of") (numbers b))
+words_begin (part_bounded p n b) = (part_words p ++ (codes " of bound " ++ (decimal n ++ (codes " of" ++ numbers b))), simp append_assoc)
+words_begin (optimal n b text) =
+    let words = claim_words (record { board = b; asks = moves text }) in
+    (decimal n ++ (codes " of" ++ words), regroup_four (codes "optimal ") (decimal n) (codes " of") words)
+words_begin (shorter solution claim) = (
+  spaced_letters solution ++ (codes " of" ++ claim_words claim),
+  regroup_four (codes "refused O2 by") (spaced_letters solution) (codes " of") (claim_words claim),
+)
+words_begin (refused what claim) = (codes " of" ++ claim_words claim, append_assoc what (codes " of") (claim_words claim))
+
 -- it begins as its kind says
 pub answer_begins : AnswersBegin
-answer_begins (bounded n b) = (
-  decimal n ++ (codes " of" ++ (numbers b ++ codes "\n")),
-  regroup (codes "bound ") (decimal n) (codes " of") (numbers b) (codes "\n"),
-)
-answer_begins (part_bounded p n b) = (
-  part_words p ++ (codes " of bound " ++ (decimal n ++ (codes " of" ++ (numbers b ++ codes "\n")))),
-  simp append_assoc,
-)
-answer_begins (optimal n b text) =
-    let words = claim_words (record { board = b; asks = moves text }) in
-    (decimal n ++ (codes " of" ++ (words ++ codes "\n")), regroup (codes "optimal ") (decimal n) (codes " of") words (codes "\n"))
-answer_begins (shorter solution claim) = (
-  spaced_letters solution ++ (codes " of" ++ (claim_words claim ++ codes "\n")),
-  regroup (codes "refused O2 by") (spaced_letters solution) (codes " of") (claim_words claim) (codes "\n"),
-)
-answer_begins (refused what claim) = (codes " of" ++ (claim_words claim ++ codes "\n"), regroup_four what (codes " of") (claim_words claim) (codes "\n"))
+answer_begins goal told =
+    let begin = words_begin told in (
+      begin.0 ++ (goal_words goal ++ codes "\n"),
+      ap (λ words. (words ++ goal_words goal) ++ codes "\n") begin.1 ∙ regroup_four (beginning told) begin.0 (goal_words goal) (codes "\n"),
+    )
 
 -- ---- letters, one after the other
 

@@ -3,6 +3,7 @@ use Rattle.std.specs.Prelude.{◌≡◌, ℕ, ◌||◌, List, ◌++◌}
 use Rattle.std.specs.List.{AllPass}
 use Rattle.puz_board.specs.BoardTexts.{is_separator}
 use Rattle.puz_board.specs.MovesTexts.{Solves, is_letter}
+use Rattle.puz_goal.specs.declared.goals.Goal.{Goal}
 use Rattle.claim_text.specs.Claims.{HasNo, ShownClaim, letters}
 use Rattle.claim_text.specs.Lines.{Told, WhatHasNoLf, beginning, told_line, told_text}
 use Rattle.claim_text.specs.Texts.{AreClaims, IsFirstNoClaim}
@@ -30,8 +31,8 @@ LettersSolve =
 
 -- a line that answers a claim has its LF at its end and nowhere else, where what a claim is refused for has none
 abbrev pub AnswersAreLines : Type 0
-AnswersAreLines = (told : Told) → WhatHasNoLf told → HasNo 10 (told_text told)
+AnswersAreLines = (goal : Goal) (told : Told) → WhatHasNoLf told → HasNo 10 (told_text goal told)
 
 -- a line that answers a claim begins as its kind says
 abbrev pub AnswersBegin : Type 0
-AnswersBegin = (told : Told) → (rest : List ℕ) × (told_line told ≡ beginning told ++ rest)
+AnswersBegin = (goal : Goal) (told : Told) → (rest : List ℕ) × (told_line goal told ≡ beginning told ++ rest)

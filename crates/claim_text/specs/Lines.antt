@@ -2,6 +2,9 @@
 use Rattle.std.specs.Prelude.{ℕ, ◌≤◌, if◌then◌else◌, codes, decimal, drop, flat_map, length, List, [], ◌++◌, ⊤}
 use Rattle.std.specs.List.{list_any}
 use Rattle.puz_board.specs.MovesTexts.{is_letter}
+use Rattle.puz_goal.specs.declared.goals.Goal.{Goal}
+use Rattle.puz_goal.specs.declared.goals.Goal.TheVariants.{First, Last}
+use Rattle.puz_goal.specs.Goals.{goal_words}
 use Rattle.move_strings.specs.BoundParts.{ShownPart}
 use Rattle.claim_text.specs.Claims.{HasNo, ShownAsks, ShownClaim, letters, part_words, shortest, moves, bound, part}
 
@@ -41,22 +44,32 @@ pub data Told : Type 0 where
   shorter : List ℕ → ShownClaim → Told
   refused : List ℕ → ShownClaim → Told
 
--- the answer without the line's end
-abbrev pub told_text : Told → List ℕ
-told_text (bounded n b) = codes "bound " ++ decimal n ++ codes " of" ++ numbers b
-told_text (part_bounded p n b) = codes "part " ++ part_words p ++ codes " of bound " ++ decimal n ++ codes " of" ++ numbers b
-told_text (optimal n b text) = codes "optimal " ++ decimal n ++ codes " of" ++ claim_words (record { board = b; asks = moves text })
-told_text (shorter solution claim) = codes "refused O2 by" ++ spaced_letters solution ++ codes " of" ++ claim_words claim
-told_text (refused what claim) = what ++ codes " of" ++ claim_words claim
+-- the answer in words, whatever the goal
+abbrev pub told_words : Told → List ℕ
+told_words (bounded n b) = codes "bound " ++ decimal n ++ codes " of" ++ numbers b
+told_words (part_bounded p n b) = codes "part " ++ part_words p ++ codes " of bound " ++ decimal n ++ codes " of" ++ numbers b
+told_words (optimal n b text) = codes "optimal " ++ decimal n ++ codes " of" ++ claim_words (record { board = b; asks = moves text })
+told_words (shorter solution claim) = codes "refused O2 by" ++ spaced_letters solution ++ codes " of" ++ claim_words claim
+told_words (refused what claim) = what ++ codes " of" ++ claim_words claim
+
+-- the line without its end, for boards that are to be solved for this goal
+abbrev pub told_text : Goal → Told → List ℕ
+told_text goal told = told_words told ++ goal_words goal
 
 -- the line
-abbrev pub told_line : Told → List ℕ
-told_line told = told_text told ++ codes "\n"
+abbrev pub told_line : Goal → Told → List ℕ
+told_line goal told = told_text goal told ++ codes "\n"
+
+-- the goal behind the words of a joined bound
+abbrev pub joined_goal : Goal → List ℕ
+joined_goal First = []
+joined_goal Last = codes ", with the blank last"
 
 -- the line that says that lines which were read give a bound of the board, in so many parts
-abbrev pub joined_line : ℕ → ℕ → List ℕ → List ℕ
-joined_line n count b =
-    codes "joined bound " ++ decimal n ++ codes " of" ++ numbers b ++ codes " from " ++ decimal count ++ codes " parts, by lines that were read\n"
+abbrev pub joined_line : Goal → ℕ → ℕ → List ℕ → List ℕ
+joined_line goal n count b =
+    codes "joined bound " ++ decimal n ++ codes " of" ++ numbers b ++ codes " from " ++ decimal count ++ codes " parts, by lines that were read"
+    ++ joined_goal goal ++ codes "\n"
 
 -- ---- what holds of them
 

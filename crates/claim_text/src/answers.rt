@@ -1,9 +1,10 @@
 //! The lines that answer claims, as values.
 
-ghost use Rattle.std.specs.Prelude.{◌≡◌, ◌+◌, ◌≤◌, ◌++◌, codes, decimal, length};
+ghost use Rattle.std.specs.Prelude.{◌≡◌, ◌+◌, ◌≤◌, ◌++◌, [], codes, decimal, length};
 ghost use Rattle.arrayvec.specs.ArrayString.{array_string_len};
+ghost use Rattle.puz_goal.specs.Goals.{goal_words};
 ghost use Rattle.claim_text.specs.Claims.{letters, part_words};
-ghost use Rattle.claim_text.specs.Lines.{HasFewLetters, claim_line, claim_words, joined_line, numbers, spaced_letters, told_line};
+ghost use Rattle.claim_text.specs.Lines.{HasFewLetters, claim_line, claim_words, joined_goal, joined_line, numbers, spaced_letters, told_line};
 ghost use Rattle.claim_text.specs.Lines.{bounded, optimal, part_bounded, refused, shorter};
 ghost use Rattle.claim_text.specs.Shown.{claim_shown};
 
@@ -13,10 +14,11 @@ use arrayvec::ArrayString;
 use itoa::Buffer;
 use move_strings::BoundPart;
 use puz_board::Board;
+use puz_goal::Goal;
 
 /// Room for the longest line: what a claim is refused for, ` of`, 25 numbers of two digits at most, ` ;`, the 1,000 letters of a
-/// claim, and the line's end; one space stands before the letters and before each number.
-pub const LINE_LEN: usize = 1402;
+/// claim, the goal, and the line's end; one space stands before the letters and before each number.
+pub const LINE_LEN: usize = 1422;
 
 /// The most bytes of what a refused claim's line begins with.
 pub const MOST_WHAT: usize = 320;
@@ -28,22 +30,22 @@ pub const MOST_SOLUTION: usize = 255;
 pub type Line = ArrayString<LINE_LEN>;
 
 /// The line that says that no solution of a board has fewer moves than `bound`: `bound 6 of 3 2 1 0`.
-pub fn bound_line(bound: u8, board: &Board) -> Line
-    ensures { result.bytes ≡ told_line (bounded bound board.now) }
+pub fn bound_line(goal: Goal, bound: u8, board: &Board) -> Line
+    ensures { result.bytes ≡ told_line goal (bounded bound board.now) }
 {
     let mut line = Line::new();
     line.push_str("bound ");
     line.push_str(Buffer::new().format(bound));
     line.push_str(" of");
     add_numbers(&mut line, board);
-    line.push_str("\n");
+    end_line(&mut line, goal);
     line
 }
 
 /// The line that says that lines which were read give a bound of a board, in so many parts:
 /// `joined bound 6 of 3 2 1 0 from 3 parts, by lines that were read`.
-pub fn joined_line(bound: u8, count: u16, board: &Board) -> Line
-    ensures { result.bytes ≡ joined_line bound count board.now }
+pub fn joined_line(goal: Goal, bound: u8, count: u16, board: &Board) -> Line
+    ensures { result.bytes ≡ joined_line goal bound count board.now }
 {
     let mut line = Line::new();
     line.push_str("joined bound ");
@@ -52,13 +54,26 @@ pub fn joined_line(bound: u8, count: u16, board: &Board) -> Line
     add_numbers(&mut line, board);
     line.push_str(" from ");
     line.push_str(Buffer::new().format(count));
-    line.push_str(" parts, by lines that were read\n");
+    line.push_str(" parts, by lines that were read");
+    line.push_str(joined_goal(goal));
+    line.push_str("\n");
     line
 }
 
+/// What such a line ends with for a goal.
+fn joined_goal(goal: Goal) -> &'static str
+    ensures words { result.now ≡ joined_goal goal }
+    ensures short { length result.now ≤ 21 }
+{
+    match goal {
+        Goal::First => "",
+        Goal::Last => ", with the blank last",
+    }
+}
+
 /// The line that says that a part of a bound of a board holds: `part 0/3 of bound 6 of 3 2 1 0`.
-pub fn part_line(part: BoundPart, bound: u8, board: &Board) -> Line
-    ensures { result.bytes ≡ told_line (part_bounded part bound board.now) }
+pub fn part_line(goal: Goal, part: BoundPart, bound: u8, board: &Board) -> Line
+    ensures { result.bytes ≡ told_line goal (part_bounded part bound board.now) }
 {
     let mut line = Line::new();
     line.push_str("part ");
@@ -67,14 +82,14 @@ pub fn part_line(part: BoundPart, bound: u8, board: &Board) -> Line
     line.push_str(Buffer::new().format(bound));
     line.push_str(" of");
     add_numbers(&mut line, board);
-    line.push_str("\n");
+    end_line(&mut line, goal);
     line
 }
 
 /// The line that says that these moves, `count` of them, are a shortest solution of a board: `optimal 6 of 3 2 1 0 ; ULDRUL`.
-pub fn optimal_line(count: u16, board: &Board, moves: &[u8]) -> Line
+pub fn optimal_line(goal: Goal, count: u16, board: &Board, moves: &[u8]) -> Line
     requires { length (letters moves.now) ≤ 1000 }
-    ensures { result.bytes ≡ told_line (optimal count board.now moves.now) }
+    ensures { result.bytes ≡ told_line goal (optimal count board.now moves.now) }
 {
     let mut line = Line::new();
     line.push_str("optimal ");
@@ -83,30 +98,30 @@ pub fn optimal_line(count: u16, board: &Board, moves: &[u8]) -> Line
         board: *board,
         asks: Asks::Moves(moves),
     };
-    end_with(line, &claim)
+    end_with(line, goal, &claim)
 }
 
 /// The line that says that a solution shows a claim to be false: `refused O2 by ULDRUL of 3 2 1 0 : 7`.
-pub fn shorter_line(solution: &[u8], claim: &Claim<'_>) -> Line
+pub fn shorter_line(goal: Goal, solution: &[u8], claim: &Claim<'_>) -> Line
     requires solution { length (letters solution.now) ≤ MOST_SOLUTION }
     requires claim { HasFewLetters (claim_shown claim.now) }
-    ensures { result.bytes ≡ told_line (shorter solution.now (claim_shown claim.now)) }
+    ensures { result.bytes ≡ told_line goal (shorter solution.now (claim_shown claim.now)) }
 {
     let mut line = Line::new();
     line.push_str("refused O2 by");
     add_letters(&mut line, solution);
-    end_with(line, claim)
+    end_with(line, goal, claim)
 }
 
 /// The line that says why a claim is refused: `refused K1 of 3 2 1 0 : 7`.
-pub fn refused_line(what: &str, claim: &Claim<'_>) -> Line
+pub fn refused_line(goal: Goal, what: &str, claim: &Claim<'_>) -> Line
     requires what { length what.now ≤ MOST_WHAT }
     requires claim { HasFewLetters (claim_shown claim.now) }
-    ensures { result.bytes ≡ told_line (refused what.now (claim_shown claim.now)) }
+    ensures { result.bytes ≡ told_line goal (refused what.now (claim_shown claim.now)) }
 {
     let mut line = Line::new();
     line.push_str(what);
-    end_with(line, claim)
+    end_with(line, goal, claim)
 }
 
 /// The line of a claim itself: `3 2 1 0 : 7`.
@@ -122,15 +137,16 @@ pub fn claim_line(claim: &Claim<'_>) -> Line
     };
     let mut line = Line::new();
     line.push_str(words);
+    line.push_str("\n");
     line
 }
 
-/// The end of a line that answers a claim: ` of 3 2 1 0 : 7` and an LF.
-pub(crate) fn of_claim(claim: &Claim<'_>) -> Line
+/// The end of a line that answers a claim: ` of 3 2 1 0 : 7`, the goal and an LF.
+pub(crate) fn of_claim(goal: Goal, claim: &Claim<'_>) -> Line
     requires { HasFewLetters (claim_shown claim.now) }
-    ensures { result.bytes ≡ codes " of" ++ claim_words (claim_shown claim.now) ++ codes "\n" }
+    ensures { result.bytes ≡ told_line goal (refused [] (claim_shown claim.now)) }
 {
-    end_with(Line::new(), claim)
+    end_with(Line::new(), goal, claim)
 }
 
 /// The end of a line that answers the claim of a part, up to the words of the part: ` of 3 2 1 0 : 7 part `.
@@ -145,22 +161,25 @@ pub(crate) fn part_front(bound: u8, board: &Board) -> Line
     line
 }
 
-/// A line ended with `of` and a claim.
-fn end_with(start: Line, claim: &Claim<'_>) -> Line
+/// A line ended with `of`, a claim and the goal.
+fn end_with(start: Line, goal: Goal, claim: &Claim<'_>) -> Line
     requires room { array_string_len start ≤ MOST_WHAT }
     requires claim { HasFewLetters (claim_shown claim.now) }
-    ensures { result.bytes ≡ start.bytes ++ codes " of" ++ claim_words (claim_shown claim.now) ++ codes "\n" }
+    ensures { result.bytes ≡ told_line goal (refused start.bytes (claim_shown claim.now)) }
 {
     let mut line = start;
     line.push_str(" of");
-    with_claim(line, claim)
+    let mut line = with_claim(line, claim);
+    end_line(&mut line, goal);
+    line
 }
 
-/// A line ended with a claim.
+/// A line and a claim behind it.
 fn with_claim(start: Line, claim: &Claim<'_>) -> Line
     requires room { array_string_len start ≤ MOST_WHAT + 3 }
     requires claim { HasFewLetters (claim_shown claim.now) }
-    ensures { result.bytes ≡ start.bytes ++ claim_words (claim_shown claim.now) ++ codes "\n" }
+    ensures bytes { result.bytes ≡ start.bytes ++ claim_words (claim_shown claim.now) }
+    ensures len { array_string_len result ≤ array_string_len start + 1078 }
 {
     let mut line = start;
     add_numbers(&mut line, &claim.board);
@@ -177,8 +196,16 @@ fn with_claim(start: Line, claim: &Claim<'_>) -> Line
             add_part(&mut line, part);
         }
     }
-    line.push_str("\n");
     line
+}
+
+/// Ends a line: with the goal, where that isn't the first one, and an LF.
+fn end_line(line: &mut Line, goal: Goal)
+    requires { array_string_len line.old + 21 ≤ LINE_LEN }
+    ensures { line.new.bytes ≡ line.old.bytes ++ goal_words goal ++ codes "\n" }
+{
+    line.push_str(goal.words());
+    line.push_str("\n");
 }
 
 /// Adds the numbers of a board's cells to a line, each with a space before it.

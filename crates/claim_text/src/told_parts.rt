@@ -12,22 +12,29 @@ use crate::cuts::split_at;
 use crate::numerals::read_numeral;
 use move_strings::BoundPart;
 use puz_board::Board;
+use puz_goal::Goal;
 
 /// The index of the part of a bound of a board, in so many parts, that a line says to hold. It has its LF.
-pub fn told_index(line: &[u8], count: u16, bound: u8, board: &Board) -> Option<u16>
+pub fn told_index(
+    goal: Goal,
+    line: &[u8],
+    count: u16,
+    bound: u8,
+    board: &Board,
+) -> Option<u16>
     requires { AreParts count }
     ensures some { IfSome result (λ i. (i < count)
-        × (line.now ≡ told_line (part_bounded (part_at count i) bound board.now))) }
+        × (line.now ≡ told_line goal (part_bounded (part_at count i) bound board.now))) }
     ensures one { IfSome result (λ i. (j : ℕ) → j < count
-        → line.now ≡ told_line (part_bounded (part_at count j) bound board.now) → j ≡ i) }
+        → line.now ≡ told_line goal (part_bounded (part_at count j) bound board.now) → j ≡ i) }
     ensures none { IfNone result ((i : ℕ) → i < count
-        → ¬ (line.now ≡ told_line (part_bounded (part_at count i) bound board.now))) }
+        → ¬ (line.now ≡ told_line goal (part_bounded (part_at count i) bound board.now))) }
 {
     let words = line.strip_prefix(b"part ".as_slice())?;
     let (index, _rest) = split_at(words, b'/')?;
     let index = read_numeral(index)?;
     let part = BoundPart::new(index, count)?;
-    if part_line(part, bound, board).as_str().as_bytes() == line {
+    if part_line(goal, part, bound, board).as_str().as_bytes() == line {
         Some(index)
     } else {
         None
@@ -44,6 +51,7 @@ pub struct RefusedPart<'l> {
 /// What a line refuses the claim of a part for, of a bound of a board in so many parts. It has its LF, and what it is refused for
 /// has no `o`.
 pub fn refused_part<'l>(
+    goal: Goal,
     line: &'l [u8],
     count: u16,
     bound: u8,
@@ -51,28 +59,34 @@ pub fn refused_part<'l>(
 ) -> Option<RefusedPart<'l>>
     requires { AreParts count }
     ensures some { IfSome result (λ r. (r.index < count) × HasNo 111 r.what.now
-        × (line.now ≡ told_line (refused r.what.now (part_claim count bound board.now r.index)))) }
+        × (line.now ≡ told_line goal (refused r.what.now (part_claim count bound board.now r.index)))) }
     ensures one { IfSome result (λ r. (what : List ℕ) (i : ℕ) → HasNo 111 what → i < count
-        → line.now ≡ told_line (refused what (part_claim count bound board.now i))
+        → line.now ≡ told_line goal (refused what (part_claim count bound board.now i))
         → (what ≡ r.what.now) × (i ≡ r.index)) }
     ensures none { IfNone result ((what : List ℕ) (i : ℕ) → HasNo 111 what → i < count
-        → ¬ (line.now ≡ told_line (refused what (part_claim count bound board.now i)))) }
+        → ¬ (line.now ≡ told_line goal (refused what (part_claim count bound board.now i)))) }
 {
     let (before, _behind) = split_at(line, b'o')?;
     let what = before.strip_suffix(b" ".as_slice())?;
-    let index = claimed_index(&line[what.len()..], count, bound, board)?;
+    let index = claimed_index(goal, &line[what.len()..], count, bound, board)?;
     Some(RefusedPart { what, index })
 }
 
-/// The index of the part of whose claim a text is ` of`, the claim and an LF.
-fn claimed_index(text: &[u8], count: u16, bound: u8, board: &Board) -> Option<u16>
+/// The index of the part of whose claim a text is ` of`, the claim, the goal and an LF.
+fn claimed_index(
+    goal: Goal,
+    text: &[u8],
+    count: u16,
+    bound: u8,
+    board: &Board,
+) -> Option<u16>
     requires { AreParts count }
     ensures some { IfSome result (λ i. (i < count)
-        × (text.now ≡ told_line (refused (codes "") (part_claim count bound board.now i)))) }
+        × (text.now ≡ told_line goal (refused (codes "") (part_claim count bound board.now i)))) }
     ensures one { IfSome result (λ i. (j : ℕ) → j < count
-        → text.now ≡ told_line (refused (codes "") (part_claim count bound board.now j)) → j ≡ i) }
+        → text.now ≡ told_line goal (refused (codes "") (part_claim count bound board.now j)) → j ≡ i) }
     ensures none { IfNone result ((i : ℕ) → i < count
-        → ¬ (text.now ≡ told_line (refused (codes "") (part_claim count bound board.now i)))) }
+        → ¬ (text.now ≡ told_line goal (refused (codes "") (part_claim count bound board.now i)))) }
 {
     let front = part_front(bound, board);
     let index = index_behind(text, front.as_str().as_bytes())?;
@@ -81,7 +95,7 @@ fn claimed_index(text: &[u8], count: u16, bound: u8, board: &Board) -> Option<u1
         board: *board,
         asks: Asks::Part(bound, part),
     };
-    if of_claim(&claim).as_str().as_bytes() == text {
+    if of_claim(goal, &claim).as_str().as_bytes() == text {
         Some(index)
     } else {
         None

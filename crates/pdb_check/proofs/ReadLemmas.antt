@@ -25,7 +25,7 @@ files_stood before reader limit _ _ read = absurd read
 module _ (shelf : Option Files) (reader : Option Bytes) where
   -- the puzzle text of `replay`
   pub replay_stood : (arguments : ReplayArguments) (puzzle : Bytes)
-      → AreRead shelf reader (replay_inputs arguments) (files_in_order (puzzle_text puzzle)) → IsReadFrom shelf reader arguments.puzzle puzzle
+      → AreRead shelf reader (replay_inputs arguments) (files_in_order (puzzle_text arguments.goal puzzle)) → IsReadFrom shelf reader arguments.puzzle puzzle
   replay_stood arguments puzzle read = read.0.0
 
   -- the table file of `table`

@@ -27,9 +27,9 @@ module _ {A : Type 0} where
 abbrev pub replay_inputs : ReplayArguments → List Wanted
 replay_inputs arguments = a_text arguments.puzzle ∷ []
 
--- it is checked as a puzzle text
+-- it is checked as a puzzle text for the goal
 abbrev pub replay_plan : ReplayArguments → Plan
-replay_plan arguments = check_plan (replay_inputs arguments) puzzle_text
+replay_plan arguments = check_plan (replay_inputs arguments) (puzzle_text arguments.goal)
 
 -- ---- `table`
 
@@ -48,9 +48,9 @@ abbrev pub log_check_inputs : LogArguments → List Wanted
 log_check_inputs arguments =
     a_text (Some arguments.text) ∷ a_text (Some arguments.sets) ∷ a_log arguments.log ∷ map a_table arguments.tables
 
--- what is claimed of the files that were read, with the tables folded or not
+-- what is claimed of the files that were read, for the goal, with the tables folded or not
 abbrev pub log_given : LogClaim → LogArguments → LogFiles → Given
-log_given claim arguments files = log_claim claim (record files { fold = arguments.fold })
+log_given claim arguments files = log_claim claim (record files { fold = arguments.fold; goal = arguments.goal })
 
 -- they are checked for what is claimed
 abbrev pub log_check_plan : LogClaim → LogArguments → Plan

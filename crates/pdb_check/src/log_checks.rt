@@ -14,7 +14,7 @@ use pdb_request::LogCheck;
 use pdb_run::{Answered, Command, Ended, Input, Io, conclude, digested_beside, read_inputs};
 use pdb_verdict::{
     Fault, TableFiles, Verdict, a_log, a_text, answer_over, begin_claim, given_up, over_tables,
-    told_or_memory, with_tables,
+    told_or_memory_for, with_tables,
 };
 use set_sum::Bundle;
 use std::alloc::{AllocError, Global};
@@ -46,6 +46,7 @@ fn with_bytes(check: &LogCheck<&str>, inputs: Vec<Vec<u8>>) -> LogCheck<Vec<u8>>
     requires { 3 ≤ length inputs.items }
     ensures claim { result.claim ≡ check.now.claim }
     ensures fold { result.fold ≡ check.now.fold }
+    ensures goal { result.goal ≡ check.now.goal }
     ensures inputs { all_bytes inputs.items ≡ files_in_order (claim_read result) }
 {
     let mut tables = inputs;
@@ -57,6 +58,7 @@ fn with_bytes(check: &LogCheck<&str>, inputs: Vec<Vec<u8>>) -> LogCheck<Vec<u8>>
         tables,
         workers: check.workers,
         fold: check.fold,
+        goal: check.goal,
     }
 }
 
@@ -89,7 +91,7 @@ fn answer_log_check<'i, H: Threads + Wait + Sync, G: Gate + Sync>(
     ensures { let claimed = claim_read check.old in
         IsAnswerBy (TellsResult claimed) (TakesMemory claimed) result.answer }
 {
-    let (claim, fold) = (check.claim, check.fold);
+    let (claim, fold, goal) = (check.claim, check.fold, check.goal);
     let LogCheck {
         text,
         sets,
@@ -98,7 +100,7 @@ fn answer_log_check<'i, H: Threads + Wait + Sync, G: Gate + Sync>(
         ..
     } = check;
     let (sets, log) = (sets.as_slice(), log.as_slice());
-    match begin_claim(claim, text.as_slice()) {
+    match begin_claim(goal, claim, text.as_slice()) {
         Ok(start) => {
             let check = |bundle: Result<Bundle<'_>, Fault>| -> Result<Verdict, Fault>
                 ensures { IsAnswerOver bundle.entry start log.entry.now result }
@@ -107,13 +109,13 @@ fn answer_log_check<'i, H: Threads + Wait + Sync, G: Gate + Sync>(
             let kept = tables.as_slice();
             let files = TableFiles { given, kept, fold };
             let (digested, answer) = over_tables(files, Some(log), sets, workers, check);
-            told_or_memory(digested, answer)
+            told_or_memory_for(goal, digested, answer)
         }
         Err(refused) => {
             let tables = tables.as_slice();
             let refuse = || Err(refused);
             let (digested, answer) = digested_beside(workers, tables, Some(log), refuse);
-            told_or_memory(digested, answer)
+            told_or_memory_for(goal, digested, answer)
         }
     }
 }

@@ -8,7 +8,7 @@ ghost use Rattle.pdb_check.specs.Plans.{replay_plan};
 
 use pdb_request::Replay;
 use pdb_run::{Answered, Command, Digested, Ended, Input, Io, conclude, read_inputs};
-use pdb_verdict::{Fault, a_text, told, verify_puzzle};
+use pdb_verdict::{Fault, a_text, told_for, verify_puzzle};
 use std::alloc::{AllocError, Global};
 
 /// A replay, as a command.
@@ -38,9 +38,9 @@ pub fn run_replay<'n, I: Io>(alloc: Global, asked: Replay<'n>, io: &mut I) -> En
         Ok(inputs) => inputs,
         Err(ended) => return ended,
     };
-    let answer = verify_puzzle(inputs[0].as_slice());
+    let answer = verify_puzzle(asked.goal, inputs[0].as_slice());
     let answered: Answered<'_, AllocError, Fault> = Answered {
-        answer: Ok(told(Digested::Files(&[], None), &answer)),
+        answer: Ok(told_for(asked.goal, Digested::Files(&[], None), &answer)),
         fault: answer.err(),
     };
     conclude(&command, &answered, io)

@@ -1,5 +1,6 @@
 -- What answers tell of verdicts.
 use Rattle.std.proofs.Common.{◌≡◌, ◌∙◌, ℕ, ◌≤◌, List, Result, Ok, Err, ap, arith, subst, sym}
+use Rattle.puz_goal.specs.declared.goals.Goal.TheVariants.{First}
 use Rattle.pdb_verdict.specs.Replay.{IsReplayTold, IsSolvedPuzzle}
 use Rattle.pdb_verdict.specs.Table.{IsTableTold}
 use Rattle.pdb_verdict.specs.declared.verdicts.Fault.{Fault}
@@ -20,9 +21,9 @@ no_yes found refused same is =
     omega arith
 
 -- a yes to a puzzle text tells how many moves solve its board
-pub replay_yes : (puzzle : List ℕ) (found : Result Verdict Fault) → IsReplayTold puzzle found → status_of found ≡ 0
-    → IsSolvedPuzzle puzzle (count_of found)
-replay_yes puzzle found (Ok n, is, same) zero_is = subst (λ r. IsSolvedPuzzle puzzle (count_of r)) (sym same) is
+pub replay_yes : (puzzle : List ℕ) (found : Result Verdict Fault) → IsReplayTold First puzzle found → status_of found ≡ 0
+    → IsSolvedPuzzle First puzzle (count_of found)
+replay_yes puzzle found (Ok n, is, same) zero_is = subst (λ r. IsSolvedPuzzle First puzzle (count_of r)) (sym same) is
 replay_yes puzzle found (Err refused, is, same) zero_is = absurd (no_yes found refused same zero_is)
 
 -- a yes to a table file says that it is exact

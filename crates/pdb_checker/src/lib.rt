@@ -11,6 +11,7 @@ ghost use Rattle.set_sum.specs.declared.faults.SetFault.{SetFault};
 ghost use Rattle.puz_search.specs.Answers.{IsShorter};
 ghost use Rattle.pdb_verdict.specs.FileBundles.{AreRefusedSets, IsBundleOfFiles};
 ghost use Rattle.pdb_verdict.specs.Lines.{line_of_set_fault};
+ghost use Rattle.puz_goal.specs.declared.goals.Goal.TheVariants.{First};
 ghost use Rattle.pdb_verdict.specs.Replay.{IsReplayTold, IsSolvedPuzzle};
 ghost use Rattle.pdb_verdict.specs.Table.{IsTableTold};
 ghost use Rattle.pdb_verdict.specs.declared.verdicts.Fault.{Fault};
@@ -34,6 +35,7 @@ pub use answers::Answer;
 pub use bundles::{Over, TableFile};
 pub use claims::Claim;
 use pdb_verdict::verify_puzzle;
+use puz_goal::Goal;
 use std::alloc::Global;
 
 /// Whether the moves of a puzzle text solve its board. The answer tells how many they are.
@@ -42,12 +44,12 @@ use std::alloc::Global;
 /// the line that says why. 3: memory is wanting. 4: the call doesn't fit together.
 #[unsafe(no_mangle)]
 pub extern "C" fn pdb_checker_replay(puzzle: &[u8], answer: &mut Answer) -> u8
-    ensures yes { result ≡ 0 → IsSolvedPuzzle puzzle.now answer.new.count }
+    ensures yes { result ≡ 0 → IsSolvedPuzzle First puzzle.now answer.new.count }
     // Which refusal it is.
-    ensures told { (found : Result Verdict Fault) × IsReplayTold puzzle.now found
+    ensures told { (found : Result Verdict Fault) × IsReplayTold First puzzle.now found
         × IsAnswerOf found answer.new × (result ≡ answer.new.status) }
 {
-    let found = verify_puzzle(puzzle);
+    let found = verify_puzzle(Goal::First, puzzle);
     *answer = Answer::of(&found);
     answer.status
 }

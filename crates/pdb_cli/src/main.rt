@@ -3,12 +3,12 @@
 
 use byte_io::disk::DiskShelf;
 use byte_io::watched::Watched;
-use pdb_early::{Look, fault_ahead, takes_long};
+use pdb_early::{Look, fault_ahead, may_be_last, takes_long};
 use pdb_program::{ArgumentFault, ProgramCall, ReadArguments, RunHost, start};
 use pdb_progress::{Watch, checked_files, is_asked_for};
-use pdb_reason::{Beginning, Reason};
+use pdb_reason::{Beginning, Reason, Summary};
 use pdb_request::Request;
-use pdb_run::{Cause, Status};
+use pdb_run::{Beside, Cause, Status};
 use pdb_verdict::Fault;
 use std::alloc::Global;
 use std::env::Env;
@@ -61,12 +61,15 @@ fn tell_reason<'n>(
     rt: &HostRuntime,
     asked: &Request<'n>,
     why: Cause<'n, Fault>,
+    beside: Beside,
     is_ahead: bool,
 ) -> io::Result<()> {
     let Some(reason) = Reason::of(asked, why) else {
         return Ok(());
     };
-    let reason = reason.on_shelf(asked, &DiskShelf::new(rt));
+    let reason = reason
+        .on_shelf(asked, &DiskShelf::new(rt))
+        .beside(beside);
     let beginning = match reason.name() {
         None => Beginning::OfAny,
         Some(name) => beginning_of(rt, name).unwrap_or(Beginning::OfAny),
@@ -111,6 +114,21 @@ fn asks_for_version(all: &Result<Vec<String>, ArgumentFault>) -> bool {
     }
 }
 
+/// What is said of a board that may be meant to have the blank last at home, where progress is told.
+const BLANK_FIRST: &str = "pdb_cli: home has the blank first: --goal last has it last";
+
+/// Tells where the blank is at home, where that may be missed.
+#[inline(never)] // so that the stack hasn't its values while the run is on
+fn tell_goal(rt: &HostRuntime, asked: &Request<'_>) {
+    let look = Look {
+        alloc: rt.alloc(),
+        files: rt,
+    };
+    if is_asked_for(rt) && may_be_last(&look, asked) {
+        let _ = rt.eprintln(BLANK_FIRST);
+    }
+}
+
 /// The files that the run checks, in order, where they are to be told and can be.
 fn files_to_tell<'a>(rt: &HostRuntime, asked: Option<&Request<'a>>) -> Vec<&'a str> {
     let none = Vec::new(rt.alloc());
@@ -137,7 +155,10 @@ fn main(rt: HostRuntime) -> ExitCode {
         && let Some(fault) = fault_before(&rt, rt.alloc(), asked)
     {
         // The run goes on, whether this is told or not.
-        let _ = tell_reason(&rt, asked, Cause::Refused(fault), true);
+        let _ = tell_reason(&rt, asked, Cause::Refused(fault), Beside::Nothing, true);
+    }
+    if let Some(asked) = asked {
+        tell_goal(&rt, asked);
     }
     let gate = Watch::asked_for(&rt, files_to_tell(&rt, asked));
     let call = ProgramCall {
@@ -149,9 +170,15 @@ fn main(rt: HostRuntime) -> ExitCode {
         arguments: read.as_ref().map_err(|fault| *fault),
     };
     let ended = start(call, &mut shelf, &mut reader, &mut out, &mut err);
+    gate.ends_claim();
     if let (Some(asked), Some(why)) = (asked, ended.why) {
         // Nobody is left to be told that standard error failed.
-        let _ = tell_reason(&rt, asked, why, false);
+        let _ = tell_reason(&rt, asked, why, ended.beside, false);
+    }
+    if let Beside::Tally(tally) = ended.beside
+        && is_asked_for(&rt)
+    {
+        let _ = rt.eprintln(Summary(tally));
     }
     if ended.why.is_none() && asks_for_version(&all) && tell_sources(&rt).is_err() {
         return ExitCode::from(Status::Fault.code());

@@ -7,4 +7,4 @@ mod logs;
 mod looks;
 mod sets;
 
-pub use looks::{Look, fault_ahead, takes_long};
+pub use looks::{Look, fault_ahead, may_be_last, takes_long};

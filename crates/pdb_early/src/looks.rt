@@ -9,6 +9,7 @@ use log_check::LogRefusal;
 use pdb_request::{LogCheck, LogClaim, Prove, Request, Solve};
 use pdb_verdict::{Fault, begin_claim};
 use puz_board::{Board, Side, is_solvable};
+use puz_goal::Goal;
 use std::alloc::Global;
 use std::fs;
 use std::rt::Files;
@@ -27,11 +28,11 @@ impl<R: Files> Look<'_, R> {
         FileStart::of(self.alloc, self.files, name)
     }
 
-    /// The board of the text of which something is claimed, where all of the text is seen. `None` where the text is refused.
-    fn board(&self, claim: LogClaim, name: &str) -> Option<Option<Board>> {
+    /// The board of the text of which something is claimed, turned for its goal, where all of the text is seen. `None` where the text is refused.
+    fn board(&self, goal: Goal, claim: LogClaim, name: &str) -> Option<Option<Board>> {
         let front = self.front(name);
         match front.as_ref().and_then(|front| front.whole()) {
-            Some(text) => Some(Some(begin_claim(claim, text).ok()?.board)),
+            Some(text) => Some(Some(begin_claim(goal, claim, text).ok()?.board)),
             None => Some(None),
         }
     }
@@ -69,9 +70,39 @@ pub fn fault_ahead<R: Files>(look: &Look<'_, R>, asked: &Request<'_>) -> Option<
     }
 }
 
+/// Whether a run that has the blank first at home reads a board from a file that has a solution with the blank last. Of claims the first
+/// board counts.
+pub fn may_be_last<R: Files>(look: &Look<'_, R>, asked: &Request<'_>) -> bool {
+    let first = || {
+        let front = look.front(board_file(asked)?)?;
+        let text = match asked {
+            Request::Prove(_) => front.bytes().split(|byte| *byte == b'\n').next()?,
+            _ => front.whole()?,
+        };
+        let text = text.split(|byte| *byte == b';' || *byte == b':').next()?;
+        Board::read(text).ok()
+    };
+    match first() {
+        Some(board) => asked.goal() == Goal::First && is_solvable(&Goal::Last.board_for(&board)),
+        None => false,
+    }
+}
+
+/// The file of the text that has a board.
+fn board_file<'n>(asked: &Request<'n>) -> Option<&'n str> {
+    match asked {
+        Request::Replay(replay) => replay.puzzle,
+        Request::LogCheck(check) => Some(check.text),
+        Request::Solve(search) => Some(search.board),
+        Request::Prove(prove) => prove.claims,
+        Request::JoinParts(parts) => parts.board,
+        Request::TableCheck(_) | Request::MakeTable(_) => None,
+    }
+}
+
 /// Of `bound` and `optimal`.
 fn log_check_fault<R: Files>(look: &Look<'_, R>, check: &LogCheck<&str>) -> Option<Fault> {
-    let board = look.board(check.claim, check.text)?;
+    let board = look.board(check.goal, check.claim, check.text)?;
     match side_of(look, check.sets, check.tables.as_slice()) {
         Ok(side) => {
             let log = look.front(check.log);
@@ -84,7 +115,7 @@ fn log_check_fault<R: Files>(look: &Look<'_, R>, check: &LogCheck<&str>) -> Opti
 
 /// Of `solve`.
 fn search_fault<R: Files>(look: &Look<'_, R>, search: &Solve<'_, &str>) -> Option<Fault> {
-    let board = look.board(LogClaim::Bound, search.board)?;
+    let board = look.board(search.goal, LogClaim::Bound, search.board)?;
     match side_of(look, search.sets, search.tables.as_slice()) {
         Ok(side) => {
             let board = board?;

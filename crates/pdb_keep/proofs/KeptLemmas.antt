@@ -78,11 +78,11 @@ search_stood shelf reader arguments board_text set_text files read =
 module _ (arguments : SolveArguments) (old new : World) where
   found_kept : (board_text set_text : Bytes) (files : List Bytes)
       → AreRead old.files old.reader (solve_inputs arguments) (board_text ∷ set_text ∷ files)
-      → (outcome : SearchOutcome) → IsSearchOf arguments.fold arguments.budget board_text set_text files outcome
-      → IsYes arguments.out old new (reply_to_search files outcome) → IsLogKept arguments old new
+      → (outcome : SearchOutcome) → IsSearchOf arguments.goal arguments.fold arguments.budget board_text set_text files outcome
+      → IsYes arguments.out old new (reply_to_search arguments.goal files outcome) → IsLogKept arguments old new
   found_kept board_text set_text files read (searched moves log n) is says =
       let proved = is.is_result in
-      let parts = solved-moves board_text moves is.could.board n proved.solved is.could.spelt in
+      let parts = solved-moves arguments.goal board_text moves is.could.board n proved.solved is.could.spelt in
       record {
         moves = moves;
         log = log;
@@ -96,7 +96,7 @@ module _ (arguments : SolveArguments) (old new : World) where
           spelt = parts.0;
           solved = parts.1;
           proved = proved.found_for;
-          least = proved_least (log_files arguments.fold (puzzle_of board_text moves) set_text log files) n proved;
+          least = proved_least (log_files arguments.goal arguments.fold (puzzle_of board_text moves) set_text log files) n proved;
         };
         kept = says.1;
         lines = says.2;

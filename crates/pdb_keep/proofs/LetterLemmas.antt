@@ -8,6 +8,8 @@ use Rattle.puz_board.specs.Cells.{move_of_letter}
 use Rattle.puz_board.specs.MovesTexts.{is_letter, moves_of}
 use Rattle.puz_board.specs.declared.moves.Move.{Move}
 use Rattle.puz_board.specs.declared.moves.Move.TheVariants.{Up, Down, Left, Right}
+use Rattle.puz_goal.specs.declared.goals.Goal.{Goal}
+use Rattle.puz_goal.specs.Goals.{goal_words}
 use Rattle.byte_io.specs.Shelf.{Bytes}
 use Rattle.pdb_keep.specs.Solve.{letter_of, letters_of, moves_line}
 use Rattle.pdb_keep.specs.Laws.{ToldMovesSolve, told_moves}
@@ -36,15 +38,15 @@ told-in_line [] all = all
 told-in_line (letter ∷ letters) all = All-cons IsInLine 32 (letter ∷ letters) refl all
 
 -- a space before them changes nothing but that the line has it
-told : (letters : Bytes) → (moves_line letters ≡ codes "moves" ++ told_moves letters ++ codes "\n")
+told : (goal : Goal) (letters : Bytes) → (moves_line goal letters ≡ codes "moves" ++ told_moves letters ++ goal_words goal ++ codes "\n")
     × (moves_of (told_moves letters) ≡ moves_of letters) × (All IsClean letters → All IsClean (told_moves letters))
-told [] = (refl, refl, λ clean. clean)
-told (letter ∷ letters) = (refl, refl, λ clean. All-cons IsClean 32 (letter ∷ letters) refl clean)
+told goal [] = (refl, refl, λ clean. clean)
+told goal (letter ∷ letters) = (refl, refl, λ clean. All-cons IsClean 32 (letter ∷ letters) refl clean)
 
 -- so the line is as it is told, and its moves solve what the moves solve
 pub told_solution : ToldMovesSolve
-told_solution b moves n solves =
-    let is = told (letters_of moves) in
+told_solution goal b moves n solves =
+    let is = told goal (letters_of moves) in
     let clean = λ (m : Move). ap (λ o. is_some o || is_separator (letter_of m)) (letter-read m) in
     let in_line = All-map IsInLine letter_of (moves_of moves) (λ k d low. letter-in_line (get_or (moves_of moves) k d)) in
     record {

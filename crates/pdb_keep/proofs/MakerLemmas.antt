@@ -5,7 +5,10 @@ use Rattle.std.proofs.lemmas.List.{drop_more, length-map, map-append}
 use Rattle.std.proofs.lemmas.List.Elements.{filter_map-append}
 use Rattle.puz_board.specs.BoardTexts.{Spells}
 use Rattle.puz_board.specs.Masks.{numbers_of}
-use Rattle.puz_board.specs.MovesTexts.{Solves, moves_of}
+use Rattle.puz_board.specs.MovesTexts.{moves_of}
+use Rattle.puz_goal.specs.declared.goals.Goal.{Goal}
+use Rattle.puz_goal.specs.Goals.{SolvesFor}
+use Rattle.puz_goal.specs.Turning.{board_for}
 use Rattle.puz_board.specs.Paths.{Leads}
 use Rattle.puz_board.specs.declared.moves.Move.{Move}
 use Rattle.puz_board.proofs.PuzzleLemmas.{puzzle_parts-puzzle}
@@ -57,30 +60,34 @@ table_told file now answer settled same is there says =
 
 -- ---- searches over a bundle
 
-module _ (fold : Bool) (budget : ℕ) (text sets : Bytes) (files : List Bytes) (board : List ℕ) (spelt : Spells text board) where
+module _ (goal : Goal) (fold : Bool) (budget : ℕ) (text sets : Bytes) (files : List Bytes) (board : List ℕ) (spelt : Spells text board) where
+  -- the board turned for its goal
+  abbrev turned : List ℕ
+  turned = board_for goal board
+
   -- what gives up over a bundle of the board's side is why no log is made
-  pub given_up : (are_for : AreForBoard fold board sets files) (why : Fault) → IsGivenUp are_for.bundle board budget why
-      → IsCauseForSearch fold budget text sets files why
+  pub given_up : (are_for : AreForBoard fold turned sets files) (why : Fault) → IsGivenUp are_for.bundle turned budget why
+      → IsCauseForSearch goal fold budget text sets files why
   given_up are_for (fault.K1 told) is = record { board = board; spelt = spelt; unmade = record { are_for = are_for; spent = is } }
   given_up are_for fault.K2 is = record { board = board; spelt = spelt; unmade = record { are_for = are_for; out_of_reach = is } }
   given_up are_for fault.K5 is = record { board = board; spelt = spelt; unmade = record { are_for = are_for; too_long = is } }
   given_up are_for fault.Memory is = (board, spelt, bundle_taken fold files sets are_for.bundle are_for.is_bundle)
   given_up are_for _ is = absurd is
 
-  unmade_of : (refused : Fault) → AreRefused fold files sets refused → IsUnmade fold budget text sets files refused
+  unmade_of : (refused : Fault) → AreRefused fold files sets refused → IsUnmade goal fold budget text sets files refused
   unmade_of (fault.TableOf number refused) is = record { board = board; spelt = spelt; unmade = is }
   unmade_of (fault.Sets refused) is = record { board = board; spelt = spelt; unmade = is }
   unmade_of _ is = absurd is
 
   -- so is why there is no bundle
-  pub no_bundle : (why : Fault) → IsCauseForBundle fold files sets why → IsCauseForSearch fold budget text sets files why
+  pub no_bundle : (why : Fault) → IsCauseForBundle fold files sets why → IsCauseForSearch goal fold budget text sets files why
   no_bundle why is = cause_by unmade_of (λ takes. (board, spelt, takes)) why is
 
   -- so a search over one makes a log, or that is why
-  pub search_came : (are_for : AreForBoard fold board sets files) (r : Result (Option Made) Fault) → IfErr r (IsGivenUp are_for.bundle board budget)
+  pub search_came : (are_for : AreForBoard fold turned sets files) (r : Result (Option Made) Fault) → IfErr r (IsGivenUp are_for.bundle turned budget)
       → IfOk r (λ made. IfSome made (λ made.
-      IsOptimumResult (log_files fold (puzzle_of text made.moves.items) sets made.log.items files) (Ok made.count)))
-      → CameTo fold budget text sets files r
+      IsOptimumResult (log_files goal fold (puzzle_of text made.moves.items) sets made.log.items files) (Ok made.count)))
+      → CameTo goal fold budget text sets files r
   search_came are_for (Ok (Some made)) why is = record { could = record { board = board; spelt = spelt; are_for = are_for }; is_result = is }
   search_came are_for (Ok None) why is = record { board = board; spelt = spelt; are_for = are_for }
   search_came are_for (Err why) gives is = given_up are_for why gives
@@ -88,12 +95,12 @@ module _ (fold : Bool) (budget : ℕ) (text sets : Bytes) (files : List Bytes) (
 -- ---- the puzzle text of a search
 
 -- a solved puzzle has the text and the moves that its text was joined of
-pub solved-moves : (text moves board : List ℕ) (n : ℕ) (solved : IsSolvedPuzzle (puzzle_of text moves) n)
-    → Spells text board → Spells text solved.board × Solves solved.board moves n
-solved-moves text moves board n solved spelt =
+pub solved-moves : (goal : Goal) (text moves board : List ℕ) (n : ℕ) (solved : IsSolvedPuzzle goal (puzzle_of text moves) n)
+    → Spells text board → Spells text solved.board × SolvesFor goal solved.board moves n
+solved-moves goal text moves board n solved spelt =
     let parts = puzzle_parts-puzzle _ text moves (record { whole = refl; first = spelled-no_semicolon text board spelt }) in
-    subst (λ (o : Option (Bytes × Bytes)). IfSome o (λ p. Spells p.0 solved.board × Solves solved.board p.1 n))
-    (sym (puzzle_parts-puzzle _ _ _ (solved-puzzle _ n solved)) ∙ parts) (solved.spelt, solved.solved)
+    subst (λ (o : Option (Bytes × Bytes)). IfSome o (λ p. Spells p.0 solved.board × SolvesFor goal solved.board p.1 n))
+    (sym (puzzle_parts-puzzle _ _ _ (solved-puzzle goal _ n solved)) ∙ parts) (solved.spelt, solved.solved)
 
 -- ---- how many moves there are
 
@@ -103,21 +110,21 @@ led-length n c (m ∷ moves) (d ∷ path) led = ap suc (led-length n d moves pat
 led-length n c _ _ led = absurd led
 
 -- so there are as many as are said, where a search makes some
-pub made_moves : (fold : Bool) (budget : ℕ) (text sets : Bytes) (tables : List Bytes) (r : Result (Option Made) Fault)
-    → CameTo fold budget text sets tables r → HasItsMoves r
-made_moves fold budget text sets tables (Ok (Some made)) is =
+pub made_moves : (goal : Goal) (fold : Bool) (budget : ℕ) (text sets : Bytes) (tables : List Bytes) (r : Result (Option Made) Fault)
+    → CameTo goal fold budget text sets tables r → HasItsMoves r
+made_moves goal fold budget text sets tables (Ok (Some made)) is =
     let moves = made.moves.items in
-    let solves = (solved-moves text moves is.could.board made.count is.is_result.solved is.could.spelt).1 in
+    let solves = (solved-moves goal text moves is.could.board made.count is.is_result.solved is.could.spelt).1 in
     length-map (moves_of moves) letter_of ∙ led-length _ _ (moves_of moves) solves.path solves.led ∙ solves.count
-made_moves fold budget text sets tables (Ok None) is = tt
-made_moves fold budget text sets tables (Err cause) is = tt
+made_moves goal fold budget text sets tables (Ok None) is = tt
+made_moves goal fold budget text sets tables (Err cause) is = tt
 
 -- ---- what is told of a search
 
 -- an answer on what was read is one on the inputs
 pub search_answered : {A : Type 0} (inputs : List Bytes) (search : Solve (Vec ℕ A)) (told : Result CommandAnswer Unanswered)
     → inputs ≡ search_read search → IsSearchAnswer search told
-    → IsMadeBy (IsSolveReply search.fold search.budget inputs) (SolveTakesMemory inputs) (SolveMakes search.fold inputs) told
+    → IsMadeBy (IsSolveReply search.goal search.fold search.budget inputs) (SolveTakesMemory inputs) (SolveMakes search.goal search.fold inputs) told
 search_answered inputs search (Ok answer) are says = (says.0, (_, _, _, are, says.1), says.2)
 search_answered inputs search (Err Memory) are takes = (_, _, _, are, takes)
 search_answered inputs search (Err Wrong) are makes = (_, _, _, are, makes)

@@ -1,7 +1,8 @@
 -- What holds of all runs of makers.
 use Rattle.std.specs.Prelude.{◌≡◌, ℕ, ◌==◌, not, List, [], ◌∷◌, ◌++◌, codes}
 use Rattle.std.specs.List.{AllPass}
-use Rattle.puz_board.specs.MovesTexts.{Solves}
+use Rattle.puz_goal.specs.declared.goals.Goal.{Goal}
+use Rattle.puz_goal.specs.Goals.{SolvesFor, goal_words}
 use Rattle.byte_io.specs.Shelf.{Bytes}
 use Rattle.pdb_request.specs.Asked.{MakeTableArguments, SolveArguments}
 use Rattle.pdb_run.specs.Runs.{Ends, World}
@@ -25,12 +26,12 @@ abbrev pub told_moves : Bytes → Bytes
 told_moves [] = []
 told_moves (letter ∷ letters) = 32 ∷ letter ∷ letters
 
--- the line of letters is that word, what is told behind it, which has no LF, and the line's end
-pub record IsToldSolution (b : List ℕ) (moves : Bytes) (n : ℕ) : Type 0 where
-  pub line : moves_line (letters_of moves) ≡ codes "moves" ++ told_moves (letters_of moves) ++ codes "\n"
+-- the line of letters is that word, what is told behind it, which has no LF, what it ends with for the goal, and the line's end
+pub record IsToldSolution (goal : Goal) (b : List ℕ) (moves : Bytes) (n : ℕ) : Type 0 where
+  pub line : moves_line goal (letters_of moves) ≡ codes "moves" ++ told_moves (letters_of moves) ++ goal_words goal ++ codes "\n"
   pub one_line : AllPass (λ byte. not (byte == 10)) (told_moves (letters_of moves))
-  pub solves : Solves b (told_moves (letters_of moves)) n
+  pub solves : SolvesFor goal b (told_moves (letters_of moves)) n
 
--- what is told of n moves that solve a board is a moves text, whose n moves solve it
+-- what is told of n moves that solve a board for a goal is a moves text, whose n moves solve it
 abbrev pub ToldMovesSolve : Type 0
-ToldMovesSolve = (b : List ℕ) (moves : Bytes) (n : ℕ) → Solves b moves n → IsToldSolution b moves n
+ToldMovesSolve = (goal : Goal) (b : List ℕ) (moves : Bytes) (n : ℕ) → SolvesFor goal b moves n → IsToldSolution goal b moves n

@@ -1,4 +1,4 @@
--- `solve BOARD SETS OUT TABLES..`: moves and a log are made for a board, and the log is kept where both prove an optimum.
+-- `solve [--goal first|last] BOARD SETS OUT TABLES..`: moves and a log are made for a board, and the log is kept where both prove an optimum.
 --
 -- The maker is free: it may find any moves and any log, or give up. What is told of them, whether the log is kept, and why it may
 -- give up, is not free.
@@ -11,6 +11,9 @@ use Rattle.puz_board.specs.declared.moves.Move.TheVariants.{Up, Down, Left, Righ
 use Rattle.set_sum.specs.Bundles.{ShownBundle}
 use Rattle.log_check.specs.declared.faults.LogRefusal.TheVariants.{L4}
 use Rattle.puz_make.specs.Faults.{IsOutOfReach}
+use Rattle.puz_goal.specs.declared.goals.Goal.{Goal}
+use Rattle.puz_goal.specs.Goals.{goal_words}
+use Rattle.puz_goal.specs.Turning.{board_for}
 use Rattle.byte_io.specs.Shelf.{Bytes}
 use Rattle.pdb_request.specs.Asked.{SolveArguments}
 use Rattle.pdb_run.specs.Commands.{Plan, Reply, Wanted, plan_under}
@@ -18,7 +21,7 @@ use Rattle.pdb_verdict.specs.Bound.{TakesMemoryForBound}
 use Rattle.pdb_verdict.specs.FileBundles.{AreRefused, IsBundleOfFiles}
 use Rattle.pdb_verdict.specs.Inputs.{log_files}
 use Rattle.pdb_verdict.specs.Limits.{a_table, a_text}
-use Rattle.pdb_verdict.specs.Lines.{counted, reply_on}
+use Rattle.pdb_verdict.specs.Lines.{counted_for, reply_on}
 use Rattle.pdb_verdict.specs.Optimal.{IsOptimumResult}
 use Rattle.pdb_verdict.specs.Replay.{puzzle_of}
 use Rattle.pdb_verdict.specs.declared.verdicts.Fault.{Fault}
@@ -49,11 +52,11 @@ pub record IsTooLongOver (fold : Bool) (board : List ℕ) (sets : Bytes) (tables
   pub are_for : AreForBoard fold board sets tables
   pub too_long : IsTooLong are_for.bundle board
 
--- the text spells a board for which they do, so that there is something to search over
-pub record IsSearchable (fold : Bool) (text sets : Bytes) (tables : List Bytes) : Type 0 where
+-- the text spells a board for which they do once it is turned for its goal, so that there is something to search over
+pub record IsSearchable (goal : Goal) (fold : Bool) (text sets : Bytes) (tables : List Bytes) : Type 0 where
   pub board : List ℕ
   pub spelt : Spells text board
-  pub are_for : AreForBoard fold board sets tables
+  pub are_for : AreForBoard fold (board_for goal board) sets tables
 
 -- they make a bundle of another side
 pub record AreForAnotherSide (fold : Bool) (board : List ℕ) (sets : Bytes) (tables : List Bytes) : Type 0 where
@@ -70,23 +73,23 @@ IsUnmadeFor fold budget board sets tables fault.K2 = IsOutOfReachOf fold board s
 IsUnmadeFor fold budget board sets tables fault.K5 = IsTooLongOver fold board sets tables
 IsUnmadeFor fold budget board sets tables refused = AreRefused fold tables sets refused
 
--- the text spells a board, for which no log is made
-pub record IsUnmadeForText (fold : Bool) (budget : ℕ) (text sets : Bytes) (tables : List Bytes) (refused : Fault) : Type 0 where
+-- the text spells a board, for which no log is made once it is turned for its goal
+pub record IsUnmadeForText (goal : Goal) (fold : Bool) (budget : ℕ) (text sets : Bytes) (tables : List Bytes) (refused : Fault) : Type 0 where
   pub board : List ℕ
   pub spelt : Spells text board
-  pub unmade : IsUnmadeFor fold budget board sets tables refused
+  pub unmade : IsUnmadeFor fold budget (board_for goal board) sets tables refused
 
 -- why no log is made: the board text comes before all else
-abbrev pub IsUnmade : Bool → ℕ → Bytes → Bytes → List Bytes → Fault → Type 0
-IsUnmade fold budget text sets tables (fault.Board refused) = board_of_text text ≡ Err refused
-IsUnmade fold budget text sets tables refused = IsUnmadeForText fold budget text sets tables refused
+abbrev pub IsUnmade : Goal → Bool → ℕ → Bytes → Bytes → List Bytes → Fault → Type 0
+IsUnmade goal fold budget text sets tables (fault.Board refused) = board_of_text text ≡ Err refused
+IsUnmade goal fold budget text sets tables refused = IsUnmadeForText goal fold budget text sets tables refused
 
 -- ---- a log that is made
 
 -- a search could begin, and its moves, n of them, and its log prove an optimum
-pub record IsMade (fold : Bool) (text sets : Bytes) (tables : List Bytes) (moves log : Bytes) (n : ℕ) : Type 0 where
-  pub could : IsSearchable fold text sets tables
-  pub is_result : IsOptimumResult (log_files fold (puzzle_of text moves) sets log tables) (Ok n)
+pub record IsMade (goal : Goal) (fold : Bool) (text sets : Bytes) (tables : List Bytes) (moves log : Bytes) (n : ℕ) : Type 0 where
+  pub could : IsSearchable goal fold text sets tables
+  pub is_result : IsOptimumResult (log_files goal fold (puzzle_of text moves) sets log tables) (Ok n)
 
 -- ---- what is told of it
 
@@ -101,14 +104,18 @@ letter_of Right = 82
 abbrev pub letters_of : Bytes → Bytes
 letters_of moves = map letter_of (moves_of moves)
 
--- the line of letters: a space stands before them, where there are any
-abbrev pub moves_line : Bytes → Bytes
-moves_line [] = codes "moves\n"
-moves_line (letter ∷ letters) = codes "moves " ++ (letter ∷ letters ++ codes "\n")
+-- letters behind their word: a space stands before them, where there are any
+abbrev pub moves_words : Bytes → Bytes
+moves_words [] = codes "moves"
+moves_words (letter ∷ letters) = codes "moves " ++ (letter ∷ letters)
+
+-- the line of letters for a goal
+abbrev pub moves_line : Goal → Bytes → Bytes
+moves_line goal letters = moves_words letters ++ goal_words goal ++ codes "\n"
 
 -- the moves come before the line of their number
-abbrev pub lines_on : Bytes → ℕ → Bytes
-lines_on moves n = moves_line (letters_of moves) ++ counted (codes "optimal ") n
+abbrev pub lines_on : Goal → Bytes → ℕ → Bytes
+lines_on goal moves n = moves_line goal (letters_of moves) ++ counted_for goal (codes "optimal ") n
 
 -- what comes of a search: a refusal, or moves, a log, and how many moves they are
 pub data SearchOutcome : Type 0 where
@@ -116,20 +123,20 @@ pub data SearchOutcome : Type 0 where
   searched : Bytes → Bytes → ℕ → SearchOutcome
 
 -- on this board text, this set text and these table files, within the budget
-abbrev pub IsSearchOf : Bool → ℕ → Bytes → Bytes → List Bytes → SearchOutcome → Type 0
-IsSearchOf fold budget text sets tables (unmade refused) = IsUnmade fold budget text sets tables refused
-IsSearchOf fold budget text sets tables (searched moves log n) = IsMade fold text sets tables moves log n
+abbrev pub IsSearchOf : Goal → Bool → ℕ → Bytes → Bytes → List Bytes → SearchOutcome → Type 0
+IsSearchOf goal fold budget text sets tables (unmade refused) = IsUnmade goal fold budget text sets tables refused
+IsSearchOf goal fold budget text sets tables (searched moves log n) = IsMade goal fold text sets tables moves log n
 
 -- the digests of the tables, and of the log where one was made, and then the lines
-abbrev pub reply_to_search : List Bytes → SearchOutcome → Reply
-reply_to_search tables (unmade refused) = reply_on tables (Err refused)
-reply_to_search tables (searched moves log n) = record { digested = tables; made = Some log; lines = lines_on moves n; is_yes = true }
+abbrev pub reply_to_search : Goal → List Bytes → SearchOutcome → Reply
+reply_to_search goal tables (unmade refused) = reply_on tables (Err refused)
+reply_to_search goal tables (searched moves log n) = record { digested = tables; made = Some log; lines = lines_on goal moves n; is_yes = true }
 
 -- a reply tells what comes of a search
-pub record TellsSearch (fold : Bool) (budget : ℕ) (text sets : Bytes) (tables : List Bytes) (reply : Reply) : Type 0 where
+pub record TellsSearch (goal : Goal) (fold : Bool) (budget : ℕ) (text sets : Bytes) (tables : List Bytes) (reply : Reply) : Type 0 where
   pub outcome : SearchOutcome
-  pub is_outcome : IsSearchOf fold budget text sets tables outcome
-  pub told : reply ≡ reply_to_search tables outcome
+  pub is_outcome : IsSearchOf goal fold budget text sets tables outcome
+  pub told : reply ≡ reply_to_search goal tables outcome
 
 -- ---- the command
 
@@ -138,9 +145,9 @@ abbrev pub solve_inputs : SolveArguments → List Wanted
 solve_inputs arguments = a_text (Some arguments.board) ∷ a_text (Some arguments.sets) ∷ map a_table arguments.tables
 
 -- what comes of a search on them is told
-abbrev pub IsSolveReply : Bool → ℕ → List Bytes → Reply → Type 0
-IsSolveReply fold budget inputs reply =
-    (text : Bytes) × (sets : Bytes) × (tables : List Bytes) × (inputs ≡ text ∷ sets ∷ tables) × TellsSearch fold budget text sets tables reply
+abbrev pub IsSolveReply : Goal → Bool → ℕ → List Bytes → Reply → Type 0
+IsSolveReply goal fold budget inputs reply =
+    (text : Bytes) × (sets : Bytes) × (tables : List Bytes) × (inputs ≡ text ∷ sets ∷ tables) × TellsSearch goal fold budget text sets tables reply
 
 -- it takes memory to check the tables of a board that is spelt, and so to search over them
 abbrev pub SolveTakesMemory : List Bytes → Type 0
@@ -148,12 +155,12 @@ SolveTakesMemory inputs =
     (text : Bytes) × (sets : Bytes) × (tables : List Bytes) × (inputs ≡ text ∷ sets ∷ tables) × TakesMemoryForBound text tables
 
 -- it makes moves and a log where a search could begin
-abbrev pub SolveMakes : Bool → List Bytes → Type 0
-SolveMakes fold inputs =
-    (text : Bytes) × (sets : Bytes) × (tables : List Bytes) × (inputs ≡ text ∷ sets ∷ tables) × IsSearchable fold text sets tables
+abbrev pub SolveMakes : Goal → Bool → List Bytes → Type 0
+SolveMakes goal fold inputs =
+    (text : Bytes) × (sets : Bytes) × (tables : List Bytes) × (inputs ≡ text ∷ sets ∷ tables) × IsSearchable goal fold text sets tables
 
 -- it spares its inputs and all but logs, unless it is asked to replace any file; for any number of workers
 abbrev pub solve_plan : SolveArguments → Plan
 solve_plan arguments =
     plan_under (Some arguments.out) (replaced_unless arguments.replace log_fronts) (solve_inputs arguments)
-    (IsSolveReply arguments.fold arguments.budget) SolveTakesMemory (SolveMakes arguments.fold)
+    (IsSolveReply arguments.goal arguments.fold arguments.budget) SolveTakesMemory (SolveMakes arguments.goal arguments.fold)

@@ -1,5 +1,6 @@
 -- What the steps of a maker's command answer: a result, or want of memory in its place.
 use Rattle.std.specs.Prelude.{◌≡◌, ⊤, ℕ, Bool, List, ◌∷◌, Option, Some, None, Result, Ok, Err, IfOk, IfSome, Vec, length}
+use Rattle.puz_goal.specs.declared.goals.Goal.{Goal}
 use Rattle.byte_io.specs.Shelf.{Bytes}
 use Rattle.pdb_request.specs.declared.requests.Solve.{Solve}
 use Rattle.pdb_run.specs.Answers.{IsMadeBy, all_bytes}
@@ -21,8 +22,8 @@ abbrev pub IsCauseForBuild : ℕ → ℕ → Fault → Type 0
 IsCauseForBuild side mask cause = IsCauseBy (IsUnbuilt side mask) (ArePattern side mask) cause
 
 -- why a search makes no log, or want of memory, which comes where the check of the tables takes some
-abbrev pub IsCauseForSearch : Bool → ℕ → Bytes → Bytes → List Bytes → Fault → Type 0
-IsCauseForSearch fold budget text sets tables cause = IsCauseBy (IsUnmade fold budget text sets tables) (TakesMemoryForBound text tables) cause
+abbrev pub IsCauseForSearch : Goal → Bool → ℕ → Bytes → Bytes → List Bytes → Fault → Type 0
+IsCauseForSearch goal fold budget text sets tables cause = IsCauseBy (IsUnmade goal fold budget text sets tables) (TakesMemoryForBound text tables) cause
 
 -- a search of a board may give up for this: its budget is spent, the board is out of reach, or the log may be too long
 abbrev pub IsGivenUp : ShownBundle → List ℕ → ℕ → Fault → Type 0
@@ -33,10 +34,10 @@ IsGivenUp v b budget fault.Memory = ⊤
 IsGivenUp v b budget _ = ⊥
 
 -- what comes of a search: it is made, or what was made is wrong, or this is why nothing is
-abbrev pub CameTo : Bool → ℕ → Bytes → Bytes → List Bytes → Result (Option Made) Fault → Type 0
-CameTo fold budget text sets tables (Ok (Some made)) = IsMade fold text sets tables made.moves.items made.log.items made.count
-CameTo fold budget text sets tables (Ok None) = IsSearchable fold text sets tables
-CameTo fold budget text sets tables (Err cause) = IsCauseForSearch fold budget text sets tables cause
+abbrev pub CameTo : Goal → Bool → ℕ → Bytes → Bytes → List Bytes → Result (Option Made) Fault → Type 0
+CameTo goal fold budget text sets tables (Ok (Some made)) = IsMade goal fold text sets tables made.moves.items made.log.items made.count
+CameTo goal fold budget text sets tables (Ok None) = IsSearchable goal fold text sets tables
+CameTo goal fold budget text sets tables (Err cause) = IsCauseForSearch goal fold budget text sets tables cause
 
 -- it has as many moves as it says, where it is made
 abbrev pub HasItsMoves : Result (Option Made) Fault → Type 0
@@ -53,4 +54,5 @@ module _ {A : Type 0} where
       let text = search.board.items in
       let sets = search.sets.items in
       let tables = all_bytes search.tables.items in
-      IsMadeBy (TellsSearch search.fold search.budget text sets tables) (TakesMemoryForBound text tables) (IsSearchable search.fold text sets tables) answer
+      IsMadeBy (TellsSearch search.goal search.fold search.budget text sets tables) (TakesMemoryForBound text tables)
+          (IsSearchable search.goal search.fold text sets tables) answer

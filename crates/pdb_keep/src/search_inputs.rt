@@ -33,6 +33,7 @@ pub(crate) fn with_bytes<'n>(
     requires { 2 ≤ length inputs.items }
     ensures fold { result.fold ≡ search.now.fold }
     ensures budget { result.budget ≡ search.now.budget }
+    ensures goal { result.goal ≡ search.now.goal }
     ensures inputs { all_bytes inputs.items ≡ search_read result }
 {
     let mut tables = inputs;
@@ -45,5 +46,6 @@ pub(crate) fn with_bytes<'n>(
         workers: search.workers,
         fold: search.fold,
         budget: search.budget,
+        goal: search.goal,
     }
 }

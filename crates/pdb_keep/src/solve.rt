@@ -2,6 +2,7 @@
 
 ghost use Rattle.std.specs.Prelude.{◌≡◌, ◌∷◌, Bool, Err, Ok, List, ℕ, [], length, IfErr, IfOk, IfSome};
 ghost use Rattle.puz_board.specs.BoardTexts.{Spells};
+ghost use Rattle.puz_goal.specs.Turning.{board_for};
 ghost use Rattle.puz_board.specs.Boards.{side_of};
 ghost use Rattle.pdb_request.specs.Asked.{solve_shown};
 ghost use Rattle.pdb_run.specs.Ended.{HasItsStatus};
@@ -29,8 +30,9 @@ use pdb_run::{
     Answered, CommandAnswer, Digested, Ended, Io, Keeping, Unanswered, beside, digested_beside,
     keep_and_conclude, read_inputs_and_try,
 };
-use pdb_verdict::{Fault, TableFiles, given_up, optimum_over, over_tables, settled, told};
+use pdb_verdict::{Fault, SaidMoves, TableFiles, given_up, optimum_over, over_tables, settled, told};
 use puz_board::{Board, BoardFault};
+use puz_goal::Goal;
 use puz_make::{MakeFault, is_out_of_reach, log_of};
 use set_sum::Bundle;
 use std::sync::Wait;
@@ -75,7 +77,7 @@ fn answer_search<'i, H: Threads + Wait + Sync, G: Gate + Sync>(
 ) -> Answered<'i, Unanswered, Fault>
     ensures { IsSearchAnswer search.old result.answer }
 {
-    let (fold, budget) = (search.fold, search.budget);
+    let (fold, budget, goal) = (search.fold, search.budget, search.goal);
     let Solve {
         board,
         sets,
@@ -87,8 +89,8 @@ fn answer_search<'i, H: Threads + Wait + Sync, G: Gate + Sync>(
             let search = |bundle: Result<Bundle<'_>, Fault>| -> Result<Option<Made>, Fault>
                 ensures { (fold : Bool) (text sets : List ℕ) (tables : List (List ℕ))
                     → Spells text board → IsReadBundle fold tables sets bundle.entry
-                    → CameTo fold budget text sets tables result }
-            { search_in(bundle, &board, budget, workers) };
+                    → CameTo goal fold budget text sets tables result }
+            { search_in(bundle, goal, &board, budget, workers) };
             let sets = sets.as_slice();
             let given = given_up(tables, fold);
             let kept = tables.as_slice();
@@ -96,14 +98,14 @@ fn answer_search<'i, H: Threads + Wait + Sync, G: Gate + Sync>(
             let (digested, outcome) = over_tables(files, None, sets, workers, search);
             let fault = outcome.as_ref().err().copied();
             Answered {
-                answer: answer_of(digested, outcome),
+                answer: answer_of(goal, digested, outcome),
                 fault,
             }
         }
         Err(refused) => {
             let (digested, outcome) = refused_beside(workers, tables.as_slice(), refused);
             Answered {
-                answer: answer_of(digested, outcome),
+                answer: answer_of(goal, digested, outcome),
                 fault: Some(Fault::Board(refused)),
             }
         }
@@ -125,34 +127,35 @@ fn refused_beside<'t, H: Threads + Wait + Sync, G: Gate + Sync>(
 
 /// The answer on what comes of a search over tables with these digest lines.
 fn answer_of<'i>(
+    goal: Goal,
     digested: Digested<'i>,
     outcome: Result<Option<Made>, Fault>,
 ) -> Result<CommandAnswer<'i>, Unanswered>
     requires { HasItsMoves outcome }
     ensures { (fold : Bool) (budget : ℕ) (text sets : List ℕ) (tables : List (List ℕ))
         → digest_lines digested.entry ≡ digests_of tables
-        → CameTo fold budget text sets tables outcome
-        → IsMadeBy (TellsSearch fold budget text sets tables)
-        (TakesMemoryForBound text tables) (IsSearchable fold text sets tables) result }
+        → CameTo goal fold budget text sets tables outcome
+        → IsMadeBy (TellsSearch goal fold budget text sets tables)
+        (TakesMemoryForBound text tables) (IsSearchable goal fold text sets tables) result }
 {
     let outcome = settled(outcome)?;
     match outcome {
-        Ok(Some(made)) => Ok(answer_on(digested, made)),
+        Ok(Some(made)) => Ok(answer_on(goal, digested, made)),
         Ok(None) => Err(Unanswered::Wrong),
         Err(refused) => Ok(told(digested, &Err(refused))),
     }
 }
 
 /// The answer on what a search made.
-fn answer_on<'i>(digested: Digested<'i>, made: Made) -> CommandAnswer<'i>
+fn answer_on<'i>(goal: Goal, digested: Digested<'i>, made: Made) -> CommandAnswer<'i>
     requires { length (letters_of made.moves.items) ≡ made.count }
     ensures { (tables : List (List ℕ)) → digest_lines digested.entry ≡ digests_of tables
         → IsReplyOf result
-        (reply_to_search tables (searched made.moves.items made.log.items made.count)) }
+        (reply_to_search goal tables (searched made.moves.items made.log.items made.count)) }
 {
     CommandAnswer {
         digested,
-        lines: lines_on(made.moves.as_slice(), made.count),
+        lines: lines_on(goal, made.moves.as_slice(), made.count),
         is_yes: true,
         made: Some(made.log),
         made_digest: made.digest,
@@ -163,19 +166,20 @@ fn answer_on<'i>(digested: Digested<'i>, made: Made) -> CommandAnswer<'i>
 /// stands: why there is no bundle, `L4` where it has another side than the board, and then the maker's.
 fn search_in<H: Threads + Wait + Sync, G: Gate + Sync>(
     bundle: Result<Bundle<'_>, Fault>,
+    goal: Goal,
     board: &Board,
     budget: u64,
     workers: &Workers<'_, H, G>,
 ) -> Result<Option<Made>, Fault>
     ensures { (fold : Bool) (text sets : List ℕ) (tables : List (List ℕ))
         → Spells text board.now → IsReadBundle fold tables sets bundle.entry
-        → CameTo fold budget text sets tables result }
+        → CameTo goal fold budget text sets tables result }
 {
     let bundle = bundle?;
     if board.side() != bundle.side() {
         return Err(Fault::Log(LogRefusal::L4));
     }
-    search_over(&bundle, board, budget, workers)
+    search_over(&bundle, goal, board, budget, workers)
 }
 
 /// Searches for a shortest solution of a board over a bundle of its side, and checks what is found. There is nothing where the
@@ -183,26 +187,30 @@ fn search_in<H: Threads + Wait + Sync, G: Gate + Sync>(
 #[inline(never)] // so that the stack hasn't its values while tables are checked
 fn search_over<H: Threads + Wait + Sync, G: Gate + Sync>(
     bundle: &Bundle<'_>,
+    goal: Goal,
     board: &Board,
     budget: u64,
     workers: &Workers<'_, H, G>,
 ) -> Result<Option<Made>, Fault>
     requires { side_of board.now ≡ bundle.now.side }
-    ensures given_up { IfErr result (IsGivenUp bundle.now board.now budget) }
+    ensures given_up { IfErr result (IsGivenUp bundle.now (board_for goal board.now) budget) }
     ensures made { (fold : Bool) (text sets : List ℕ) (tables : List (List ℕ))
         → Spells text board.now → IsBundleOfFiles fold tables sets bundle.now
         → IfOk result (λ made. IfSome made (λ made.
         let puzzle = puzzle_of text made.moves.items in
-        IsOptimumResult (log_files fold puzzle sets made.log.items tables) (Ok made.count))) }
+        IsOptimumResult (log_files goal fold puzzle sets made.log.items tables) (Ok made.count))) }
 {
-    let Some(found) = find(bundle, board, budget, workers)? else {
+    let Some(found) = find(bundle, &goal.board_for(board), budget, workers)? else {
         return Ok(None);
     };
+    let mut found = found;
+    goal.turn_moves(found.moves.as_mut_slice());
     let (moves, log) = (found.moves.as_slice(), found.log.as_slice());
+    let said = SaidMoves { goal, board, moves };
     let check = || -> Result<u8, Fault>
         ensures { let log = log.entry.now in
-            IsOptimumOver bundle.entry.now board.entry.now moves.entry.now log result }
-    { optimum_over(bundle, board, moves, log, workers) };
+            IsOptimumOver goal bundle.entry.now board.entry.now moves.entry.now log result }
+    { optimum_over(bundle, said, log, workers) };
     let (digest, answer) = beside(workers, &[], Some(log), check);
     let Ok(count) = settled(answer)? else {
         return Ok(None);
@@ -215,7 +223,7 @@ fn search_over<H: Threads + Wait + Sync, G: Gate + Sync>(
     }))
 }
 
-/// The moves and the log that are made for a board, unchecked.
+/// The moves and the log that are made for a board, unchecked; the moves are turned back for the goal before they are checked.
 #[derive(Drop)]
 struct Found {
     moves: Vec<u8>,

@@ -1,6 +1,6 @@
 -- What a line tells of a bound in parts.
 use Rattle.std.proofs.Common.{◌≡◌, ℕ, ◌+◌, ◌<◌, ◌||◌, Bool, true, false, List, [], ◌∷◌, ◌++◌, codes, drop, eqb, eq-eqb, get_or, length, not, refl, sym, ◌∙◌}
-use Rattle.std.proofs.Common.{ap, arith, inl, inr, subst}
+use Rattle.std.proofs.Common.{ap, arith, inl, inr, subst, take}
 use Rattle.std.proofs.lemmas.Bool.{cases_Bool, cases_eq, ne_eqb, not_from_false}
 use Rattle.std.proofs.lemmas.Bool.Decides.{Decides-eqb}
 use Rattle.std.proofs.lemmas.List.Elements.{All-append, All-cons, All-head, All-nil, All-tail}
@@ -11,15 +11,16 @@ use Rattle.std.proofs.lemmas.Slice.Eq.{bytes_eq-Decides, starts_is}
 use Rattle.std.specs.List.{AllPass, list_all, range_with_len}
 use Rattle.std.specs.Str.{bytes_eq}
 use Rattle.puz_board.specs.BoardTexts.{is_separator}
-use Rattle.puz_board.specs.MovesTexts.{Solves, is_letter}
+use Rattle.puz_board.specs.MovesTexts.{is_letter}
+use Rattle.puz_goal.specs.Goals.{SolvesFor}
 use Rattle.claim_text.specs.Claims.{HasNo}
 use Rattle.claim_text.specs.Lines.{refused, told_line}
-use Rattle.pdb_parts.specs.Beside.{is_digest, is_of_search, is_one_of, spent_line, unsolved_line}
+use Rattle.pdb_parts.specs.Beside.{is_aside, is_digest, is_of_search, is_one_of, spent_line, unsolved_line}
 use Rattle.pdb_parts.specs.Joining.{Refutes, RefutesNot, ShownBoundInParts, claim_of, part_line}
 use Rattle.pdb_parts.specs.Stored.{IsAnswerOf}
 use Rattle.pdb_parts.specs.declared.answers.PartAnswer.TheVariants.{Holds, Other, Skipped, Spent}
 
-head_of : ℕ → List ℕ → ℕ
+pub head_of : ℕ → List ℕ → ℕ
 head_of d [] = d
 head_of d (x ∷ xs) = x
 
@@ -90,6 +91,33 @@ pub moves_no : (moves : List ℕ) → AllPass (λ byte. is_letter byte || is_sep
 moves_no moves all =
     All-append (λ b. not (eqb b 111) ≡ true) (codes "refused O2 by") moves (known (codes "refused O2 by") refl) (letters_no_o moves all)
 
+-- ---- a line that says nothing
+
+-- it begins as no answer does, neither by `p` nor by `r`
+pub record BeginsAside (line : List ℕ) : Type 0 where
+  pub no_part : ¬ (head_of 0 line ≡ 112)
+  pub no_refusal : ¬ (head_of 0 line ≡ 114)
+
+begins_by : (line : List ℕ) (first : ℕ) → head_of 0 line ≡ first → ¬ (first ≡ 112) → ¬ (first ≡ 114) → BeginsAside line
+begins_by line first is no_p no_r = record { no_part = λ p. no_p (sym is ∙ p); no_refusal = λ r. no_r (sym is ∙ r) }
+
+pub begins_aside : (line : List ℕ) → is_aside line ≡ true → BeginsAside line
+unfolding head_of
+begins_aside line is =
+    go (is_digest line) (bytes_eq (codes "#") (take 1 line)) (bytes_eq line (codes "\n")) refl refl refl is
+  where
+    go : (digest remark empty : Bool) → is_digest line ≡ digest → bytes_eq (codes "#") (take 1 line) ≡ remark → bytes_eq line (codes "\n") ≡ empty
+        → ((digest || remark) || empty) ≡ true → BeginsAside line
+    go true remark empty d r e any =
+        let front : line ≡ codes "sha256 " ++ drop 7 line = (starts_is Decides-eqb line (codes "sha256 ") (is_digest line) refl).0 d in
+        begins_by line 115 (ap (head_of 0) front) (λ no. omega (arith, no)) (λ no. omega (arith, no))
+    go false true empty d r e any =
+        let front : line ≡ codes "#" ++ drop 1 line = (starts_is Decides-eqb line (codes "#") (bytes_eq (codes "#") (take 1 line)) refl).0 r in
+        begins_by line 35 (ap (head_of 0) front) (λ no. omega (arith, no)) (λ no. omega (arith, no))
+    go false false true d r e any =
+        begins_by line 10 (ap (head_of 0) ((bytes_eq-Decides line (codes "\n")).0 e)) (λ no. omega (arith, no)) (λ no. omega (arith, no))
+    go false false false d r e any = absurd (let no : false ≡ true = any in cc)
+
 -- ---- what the line tells
 
 module _ (asked : ShownBoundInParts) (line : List ℕ) where
@@ -99,7 +127,7 @@ module _ (asked : ShownBoundInParts) (line : List ℕ) where
 
   -- it refuses the claim of this part alone, and for this alone
   abbrev pub IsAloneFor : List ℕ → ℕ → Type 0
-  IsAloneFor what i = (other : List ℕ) (j : ℕ) → HasNo 111 other → j < asked.count → line ≡ told_line (refused other (claim_of asked j))
+  IsAloneFor what i = (other : List ℕ) (j : ℕ) → HasNo 111 other → j < asked.count → line ≡ told_line asked.goal (refused other (claim_of asked j))
       → (other ≡ what) × (j ≡ i)
 
   -- the parts of a test of four
@@ -127,19 +155,17 @@ module _ (asked : ShownBoundInParts) (line : List ℕ) where
   abbrev c : Bool
   c = is_one_of (unsolved_line asked) asked.count line
 
-  -- it is that of a digest
-  pub digest_answer : is_digest line ≡ true → IsAnswerOf asked line Other
+  -- it says nothing
+  pub aside_answer : is_aside line ≡ true → IsAnswerOf asked line Other
   unfolding head_of
-  digest_answer is =
-      let front : line ≡ codes "sha256 " ++ drop 7 line = (starts_is Decides-eqb line (codes "sha256 ") (is_digest line) refl).0 is in
+  aside_answer is =
+      let begins = begins_aside line is in
       record {
-        none = λ moves refutes. let first : 115 ≡ 114 = ap (head_of 0) (sym front ∙ refutes.is) in absurd (omega (arith, first));
+        none = λ moves refutes. begins.no_refusal (ap (head_of 0) refutes.is);
         below = tt;
-        holds = λ i below. other_bytes line (part_line asked i)
-            (λ same. let first : 115 ≡ 112 = ap (head_of 0) (sym front ∙ same) in absurd (omega (arith, first)));
-        spent = λ i below. other_bytes line (spent_line asked i)
-            (λ same. let first : 115 ≡ 114 = ap (head_of 0) (sym front ∙ same) in absurd (omega (arith, first)));
-        skipped = last_of a b c (is_digest line) is;
+        holds = λ i below. other_bytes line (part_line asked i) (λ same. begins.no_part (ap (head_of 0) same));
+        spent = λ i below. other_bytes line (spent_line asked i) (λ same. begins.no_refusal (ap (head_of 0) same));
+        skipped = last_of a b c (is_aside line) is;
       }
 
   -- of a part that holds
@@ -152,16 +178,16 @@ module _ (asked : ShownBoundInParts) (line : List ℕ) where
     holds = of_one (part_line asked) asked.count line i is one;
     spent = λ j within. other_bytes line (spent_line asked j)
         (λ same. let first : 112 ≡ 114 = ap (head_of 0) (sym is ∙ same) in absurd (omega (arith, first)));
-    skipped = first_of a b c (is_digest line) (one_is (part_line asked) asked.count line i below is);
+    skipped = first_of a b c (is_aside line) (one_is (part_line asked) asked.count line i below is);
   }
 
   -- of moves that are fewer
-  pub moves_refute : (what moves : List ℕ) (i n : ℕ) → i < asked.count → line ≡ told_line (refused what (claim_of asked i))
-      → what ≡ codes "refused O2 by" ++ moves → Solves asked.board moves n → n < asked.bound → Refutes asked line moves
+  pub moves_refute : (what moves : List ℕ) (i n : ℕ) → i < asked.count → line ≡ told_line asked.goal (refused what (claim_of asked i))
+      → what ≡ codes "refused O2 by" ++ moves → SolvesFor asked.goal asked.board moves n → n < asked.bound → Refutes asked line moves
   moves_refute what moves i n below is words solves fewer = record {
     index = i;
     below = below;
-    is = is ∙ ap (λ (w : List ℕ). told_line (refused w (claim_of asked i))) words;
+    is = is ∙ ap (λ (w : List ℕ). told_line asked.goal (refused w (claim_of asked i))) words;
     count = n;
     solves = solves;
     fewer = fewer;
@@ -182,7 +208,7 @@ module _ (asked : ShownBoundInParts) (line : List ℕ) where
       below = below;
       holds = part_none;
       spent = of_one (spent_line asked) asked.count line i is (λ j within same. (alone (codes "refused K1") j k1_no within same).1);
-      skipped = second_of a b c (is_digest line) (one_is (spent_line asked) asked.count line i below is);
+      skipped = second_of a b c (is_aside line) (one_is (spent_line asked) asked.count line i below is);
     }
 
     -- of one whose board has no solution
@@ -198,35 +224,47 @@ module _ (asked : ShownBoundInParts) (line : List ℕ) where
           (λ same.
           let words = (alone (codes "refused K1") j k1_no within same).0 in
           let digit : 49 ≡ 50 = ap (λ (t : List ℕ). head_of 0 (drop 9 t)) words in absurd (omega (arith, digit)));
-      skipped = third_of a b c (is_digest line) (one_is (unsolved_line asked) asked.count line i below is);
+      skipped = third_of a b c (is_aside line) (one_is (unsolved_line asked) asked.count line i below is);
     }
 
     -- or of nothing that a search says of the parts
-    pub skipped_answer : is_digest line ≡ false → ((j : ℕ) → j < asked.count → ¬ (line ≡ spent_line asked j))
+    pub skipped_answer : is_aside line ≡ false → ((j : ℕ) → j < asked.count → ¬ (line ≡ spent_line asked j))
         → ((j : ℕ) → j < asked.count → ¬ (line ≡ unsolved_line asked j)) → RefutesNot asked line → IsAnswerOf asked line Skipped
-    skipped_answer no_digest no_spent no_unsolved none = record {
+    skipped_answer no_aside no_spent no_unsolved none = record {
       none = none;
       below = tt;
       holds = part_none;
       spent = λ i below. other_bytes line (spent_line asked i) (no_spent i below);
-      skipped = none_of a b c (is_digest line) (none_is (part_line asked) asked.count line no_part)
-          (none_is (spent_line asked) asked.count line no_spent) (none_is (unsolved_line asked) asked.count line no_unsolved) no_digest;
+      skipped = none_of a b c (is_aside line) (none_is (part_line asked) asked.count line no_part)
+          (none_is (spent_line asked) asked.count line no_spent) (none_is (unsolved_line asked) asked.count line no_unsolved) no_aside;
     }
 
+    -- moves that refute the bound are said by no line of a search otherwise
+    pub refuting_skipped : (what moves : List ℕ) (i : ℕ) → is_aside line ≡ false → IsAloneFor what i → what ≡ codes "refused O2 by" ++ moves
+        → not (is_of_search asked line) ≡ true
+    unfolding head_of
+    refuting_skipped what moves i no_aside alone words =
+        none_of a b c (is_aside line) (none_is (part_line asked) asked.count line no_part)
+        (none_is (spent_line asked) asked.count line (λ j below is.
+        let letter : 75 ≡ 79 = ap (λ (t : List ℕ). head_of 0 (drop 8 t)) ((alone (codes "refused K1") j k1_no below is).0 ∙ words) in omega (arith, letter)))
+        (none_is (unsolved_line asked) asked.count line (λ j below is.
+        let letter : 75 ≡ 79 = ap (λ (t : List ℕ). head_of 0 (drop 8 t)) ((alone (codes "refused K2") j k2_no below is).0 ∙ words) in omega (arith, letter)))
+        no_aside
+
     -- so it is where the line refuses no claim of a part
-    pub no_claim_answer : is_digest line ≡ false
-        → ((what : List ℕ) (j : ℕ) → HasNo 111 what → j < asked.count → ¬ (line ≡ told_line (refused what (claim_of asked j))))
+    pub no_claim_answer : is_aside line ≡ false
+        → ((what : List ℕ) (j : ℕ) → HasNo 111 what → j < asked.count → ¬ (line ≡ told_line asked.goal (refused what (claim_of asked j))))
         → IsAnswerOf asked line Skipped
-    no_claim_answer no_digest none =
-        skipped_answer no_digest (λ j below. none (codes "refused K1") j k1_no below) (λ j below. none (codes "refused K2") j k2_no below)
+    no_claim_answer no_aside none =
+        skipped_answer no_aside (λ j below. none (codes "refused K1") j k1_no below) (λ j below. none (codes "refused K2") j k2_no below)
         (λ moves refutes. none (codes "refused O2 by" ++ moves) refutes.index (moves_no moves refutes.solves.letters) refutes.below refutes.is)
 
     -- and where it refuses one for something else
-    pub other_claim_answer : (what : List ℕ) (i : ℕ) → is_digest line ≡ false → IsAloneFor what i → ¬ (what ≡ codes "refused K1") → ¬ (what ≡ codes "refused K2")
-        → ((moves : List ℕ) (n : ℕ) → what ≡ codes "refused O2 by" ++ moves → Solves asked.board moves n → ¬ (n < asked.bound))
+    pub other_claim_answer : (what : List ℕ) (i : ℕ) → is_aside line ≡ false → IsAloneFor what i → ¬ (what ≡ codes "refused K1") → ¬ (what ≡ codes "refused K2")
+        → ((moves : List ℕ) (n : ℕ) → what ≡ codes "refused O2 by" ++ moves → SolvesFor asked.goal asked.board moves n → ¬ (n < asked.bound))
         → IsAnswerOf asked line Skipped
-    other_claim_answer what i no_digest alone no_k1 no_k2 no_moves =
-        skipped_answer no_digest
+    other_claim_answer what i no_aside alone no_k1 no_k2 no_moves =
+        skipped_answer no_aside
         (λ j below is. no_k1 (sym (alone (codes "refused K1") j k1_no below is).0))
         (λ j below is. no_k2 (sym (alone (codes "refused K2") j k2_no below is).0))
         (λ moves refutes.

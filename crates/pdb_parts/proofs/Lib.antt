@@ -1,4 +1,5 @@
 mod AnswerLemmas
+mod FirstLemmas
 mod LawLemmas
 pub mod LineLemmas
 mod MarkLemmas

@@ -2,7 +2,7 @@
 use Rattle.std.proofs.Common.{◌≡◌, ◌∙◌, ◌%◌, ◌<◌, ◌≤◌, ◌++◌, ℕ, zero, suc, Bool, true, false, List, [], Option, Some, None, Result, Ok, Err, ap, arith, cond}
 use Rattle.std.proofs.Common.{flat_map, length, refl, sym}
 use Rattle.puz_board.specs.BoardTexts.{Spells, board_of_text}
-use Rattle.puz_board.specs.Paths.{IsSolution}
+use Rattle.puz_goal.specs.Goals.{IsBoundedFor}
 use Rattle.puz_board.specs.declared.texts.BoardFault.{BoardFault}
 use Rattle.puz_board.proofs.SpellingLemmas.{spelled-board_of_text}
 use Rattle.claim_text.specs.Lines.{joined_line}
@@ -27,8 +27,8 @@ odd_some (suc n) odd = omega arith
 pub record SaysBound (arguments : PartsArguments) (text : Bytes) (answers : List Bytes) (reply : Reply) : Type 0 where
   pub board : List ℕ
   pub spelt : Spells text board
-  pub line : reply_text reply ≡ digests_of answers ++ joined_line arguments.bound arguments.count board
-  pub bounded : AreTrueAnswers (asked_of_board arguments board) answers → (path : List ℕ) → IsSolution board path → arguments.bound ≤ length path
+  pub line : reply_text reply ≡ digests_of answers ++ joined_line arguments.goal arguments.bound arguments.count board
+  pub bounded : AreTrueAnswers (asked_of_board arguments board) answers → IsBoundedFor arguments.goal board arguments.bound
 
 module _ (arguments : PartsArguments) (text : Bytes) (answers : List Bytes) (reply : Reply) (count : AreParts arguments.count) (is_yes : reply.is_yes ≡ true) where
   no_yes : {A : Type 0} (other : Reply) → reply ≡ other → other.is_yes ≡ false → A

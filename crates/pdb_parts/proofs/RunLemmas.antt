@@ -126,7 +126,7 @@ module _ (arguments : PartsArguments) (count : AreParts arguments.count) {old mi
     (answers : List Bytes) (b : List ℕ)
     (are : HasRead (parts_inputs arguments) old mid inputs) (order : inputs ≡ text ∷ answers) (is : Ok b ≡ board_of_text text) where
   -- what was joined is said
-  pub ends_joined : (joined : Joined) → IsJoined joined answers (asked_of_board arguments b)
+  pub ends_joined : (joined : Joined) → IsJoined joined arguments.answers answers (asked_of_board arguments b)
       → IsSaid (string_bytes joined.text) (status_of_reply joined.is_yes) mid new status → Ends (parts_plan arguments) old new status
   ends_joined joined are_joined said =
       let begun = begun_reading {plan = parts_plan arguments} refl are in
@@ -151,22 +151,22 @@ module _ (arguments : PartsArguments) (count : AreParts arguments.count) {old mi
 
 module _ (arguments : PartsArguments) {old mid : World} {inputs : List Bytes} (text : Bytes) (answers : List Bytes) (b : List ℕ)
     (are : HasRead (parts_inputs arguments) old mid inputs) (order : inputs ≡ text ∷ answers) (is : Ok b ≡ board_of_text text) (joined : Joined)
-    (are_joined : IsJoined joined answers (asked_of_board arguments b)) (old_err new_err : Option Bytes) where
-  told_whole : Appends old_err new_err joined.beside.bytes ⊎ AppendsFront old_err new_err joined.beside.bytes → HasToldBeside arguments old old_err new_err
+    (are_joined : IsJoined joined arguments.answers answers (asked_of_board arguments b)) (old_err new_err : Option Bytes) where
+  told_whole : Appends old_err new_err (string_bytes joined.beside) ⊎ AppendsFront old_err new_err (string_bytes joined.beside) → HasToldBeside arguments old old_err new_err
   told_whole got =
-      let told : IsToldOfAnswers arguments (Ok b) answers joined.beside.bytes =
+      let told : IsToldOfAnswers arguments (Ok b) answers (string_bytes joined.beside) =
       record { moves = are_joined.moves; first = are_joined.first; is = are_joined.beside } in
       record {
         text = text;
         answers = answers;
         read = subst (AreRead old.files old.reader (parts_inputs arguments)) order are.read;
-        told = joined.beside.bytes;
-        is = subst (λ board. IsToldOfAnswers arguments board answers joined.beside.bytes) is told;
+        told = string_bytes joined.beside;
+        is = subst (λ board. IsToldOfAnswers arguments board answers (string_bytes joined.beside)) is told;
         got = got;
       }
 
   -- what is told beside it is told
-  pub tells_joined : (status : Status) → TellsBeside joined.beside.bytes old_err new_err status → TellsOfAnswers arguments old old_err new_err status
+  pub tells_joined : (status : Status) → TellsBeside (string_bytes joined.beside) old_err new_err status → TellsOfAnswers arguments old old_err new_err status
   tells_joined Yes told = told_whole told
   tells_joined Refused told = told_whole told
   tells_joined Fault told = told

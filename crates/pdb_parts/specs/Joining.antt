@@ -2,7 +2,8 @@
 use Rattle.std.specs.Prelude.{◌≡◌, ℕ, ◌<◌, ◌-◌, ◌==◌, Bool, true, false, not, if◌then◌else◌, codes, filter, flat_map, length, map, take, List, [], ◌∷◌, ◌++◌, Option, Some, None}
 use Rattle.std.specs.List.{All, list_all, list_any, range_with_len, slice_split}
 use Rattle.std.specs.Str.{bytes_eq}
-use Rattle.puz_board.specs.MovesTexts.{Solves}
+use Rattle.puz_goal.specs.Goals.{SolvesFor}
+use Rattle.puz_goal.specs.declared.goals.Goal.{Goal}
 use Rattle.claim_text.specs.Claims as claims
 use Rattle.claim_text.specs.Claims.{ShownClaim}
 use Rattle.claim_text.specs.Lines.{claim_line, joined_line, part_bounded, refused, shorter, told_line}
@@ -20,6 +21,8 @@ pub record ShownBoundInParts : Type 0 where
   pub board : List ℕ
   pub bound : ℕ
   pub count : ℕ
+  -- where the blank is at home
+  pub goal : Goal
 
 -- the claim that its part with this index holds
 abbrev pub claim_of : ShownBoundInParts → ℕ → ShownClaim
@@ -29,7 +32,7 @@ claim_of asked index = part_claim asked.count asked.bound asked.board index
 
 -- the line that says that the part with this index holds
 abbrev pub part_line : ShownBoundInParts → ℕ → List ℕ
-part_line asked index = told_line (part_bounded (part_at asked.count index) asked.bound asked.board)
+part_line asked index = told_line asked.goal (part_bounded (part_at asked.count index) asked.bound asked.board)
 
 -- one of the lines says so
 abbrev pub is_told : List (List ℕ) → ShownBoundInParts → ℕ → Bool
@@ -55,9 +58,9 @@ open_claims lines asked = flat_map (open_claim asked) (filter (λ index. not (is
 pub record Refutes (asked : ShownBoundInParts) (line moves : List ℕ) : Type 0 where
   pub index : ℕ
   pub below : index < asked.count
-  pub is : line ≡ told_line (refused (codes "refused O2 by" ++ moves) (claim_of asked index))
+  pub is : line ≡ told_line asked.goal (refused (codes "refused O2 by" ++ moves) (claim_of asked index))
   pub count : ℕ
-  pub solves : Solves asked.board moves count
+  pub solves : SolvesFor asked.goal asked.board moves count
   pub fewer : count < asked.bound
 
 -- the line shows no such moves
@@ -75,7 +78,7 @@ AreFirstMoves asked lines (Some moves) =
 
 -- the bound, behind the digests of the texts that were read
 abbrev pub bound_reply : List Bytes → ShownBoundInParts → Reply
-bound_reply texts asked = record { digested = texts; made = None; lines = joined_line asked.bound asked.count asked.board; is_yes = true }
+bound_reply texts asked = record { digested = texts; made = None; lines = joined_line asked.goal asked.bound asked.count asked.board; is_yes = true }
 
 -- the claims that are open
 abbrev pub open_reply : List Bytes → ShownBoundInParts → Reply
@@ -84,7 +87,7 @@ open_reply texts asked = record { digested = []; made = None; lines = open_claim
 -- that these moves show that the bound is false, in the words of `prove`
 abbrev pub false_reply : ShownBoundInParts → List ℕ → Reply
 false_reply asked moves =
-    record { digested = []; made = None; lines = told_line (shorter moves (record { board = asked.board; asks = claims.bound asked.bound })); is_yes = false }
+    record { digested = []; made = None; lines = told_line asked.goal (shorter moves (record { board = asked.board; asks = claims.bound asked.bound })); is_yes = false }
 
 -- one of these, where the lines of these texts show these moves, if any
 abbrev pub joined_reply : List Bytes → ShownBoundInParts → Option (List ℕ) → Reply

@@ -25,7 +25,7 @@ parts_inputs arguments = a_text arguments.board ∷ map an_answers_text argument
 
 -- the bound in parts that is asked for, of this board
 abbrev pub asked_of_board : PartsArguments → List ℕ → ShownBoundInParts
-asked_of_board arguments b = record { board = b; bound = arguments.bound; count = arguments.count }
+asked_of_board arguments b = record { board = b; bound = arguments.bound; count = arguments.count; goal = arguments.goal }
 
 -- this is said where the lines show these moves, if any
 pub record IsJoinedReply (asked : ShownBoundInParts) (answers : List Bytes) (reply : Reply) : Type 0 where

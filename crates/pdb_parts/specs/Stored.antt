@@ -13,7 +13,7 @@ use Rattle.pdb_parts.specs.declared.marks.BoundInParts.{BoundInParts}
 
 -- the bound in parts
 abbrev pub shown : BoundInParts → ShownBoundInParts
-shown asked = record { board = asked.board; bound = asked.bound; count = asked.count }
+shown asked = record { board = asked.board; bound = asked.bound; count = asked.count; goal = asked.goal }
 
 -- ---- one line
 
@@ -60,10 +60,10 @@ pub record AreCountsOf (counts : LineCounts) (lines : List (List ℕ)) (asked : 
 
 -- ---- what is said
 
--- this is what is said of the lines of these texts
-pub record IsJoined (joined : Joined) (answers : List Bytes) (asked : ShownBoundInParts) : Type 0 where
+-- this is what is said of the lines of these texts, of files of these names
+pub record IsJoined (joined : Joined) (names answers : List Bytes) (asked : ShownBoundInParts) : Type 0 where
   pub moves : Option (List ℕ)
   pub first : AreFirstMoves asked (flat_map whole_lines answers) moves
   pub text : string_bytes joined.text ≡ reply_text (joined_reply answers asked moves)
   pub is_yes : joined.is_yes ≡ (joined_reply answers asked moves).is_yes
-  pub beside : joined.beside.bytes ≡ beside_text (flat_map whole_lines answers) asked moves
+  pub beside : string_bytes joined.beside ≡ beside_text names answers asked moves

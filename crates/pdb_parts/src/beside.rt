@@ -1,20 +1,31 @@
 //! What the errors are told of lines that are skipped, and of parts that a budget ended.
 
-ghost use Rattle.std.specs.Prelude.{◌≡◌, ◌⊎◌, ◌+◌, IfSome};
+ghost use Rattle.std.specs.Prelude.{◌≡◌, ◌⊎◌, ◌+◌, ◌++◌, IfOk, IfSome, string_bytes};
 ghost use Rattle.std.specs.Io.KnownBytes.{Appends};
 ghost use Rattle.byte_io.specs.Streams.{AppendsFront};
-ghost use Rattle.pdb_parts.specs.Beside.{counts_text, ended_line, skipped_line, where_some};
+ghost use Rattle.claim_text.specs.Parts.{AreParts};
+ghost use Rattle.pdb_request.specs.Asked.{file_names};
+ghost use Rattle.pdb_run.specs.Answers.{all_bytes};
+ghost use Rattle.pdb_parts.specs.Beside.{counts_text, ended_line, first_told, skipped_line, where_some};
+ghost use Rattle.pdb_parts.specs.Stored.{shown};
 
+use crate::first::first_told;
+use crate::marks::BoundInParts;
 use arrayvec::ArrayString;
 use byte_io::streams::put_text;
 use itoa::Buffer;
+use std::alloc::{AllocError, Global};
 use std::io::Write;
 
 /// One line of it, as a value.
 type BesideLine = ArrayString<128>;
 
-/// All of it, as a value.
-pub type BesideText = ArrayString<256>;
+/// Files of answer lines, which were read: their names, and their texts in the same order.
+#[derive(Clone, Copy)]
+pub struct AnswerFiles<'a> {
+    pub names: &'a [&'a str],
+    pub texts: &'a [Vec<u8>],
+}
 
 /// How many whole lines there are, and how many of these are skipped.
 #[derive(Clone, Copy, Debug, PartialEq, Eq)]
@@ -36,14 +47,21 @@ impl LineCounts {
     }
 }
 
-/// What is told of lines that are skipped, and of open parts whose search a budget ended: so many of so many parts.
-pub(crate) fn counts_text(counts: LineCounts, spent: usize, count: u16) -> BesideText
-    ensures { result.bytes ≡ counts_text counts.skipped counts.all spent count }
+/// What is told of the lines of files of which so many are skipped, and of so many open parts whose search a budget ended.
+pub(crate) fn counts_text(
+    alloc: Global,
+    files: AnswerFiles<'_>,
+    counts: LineCounts,
+    spent: usize,
+    asked: &BoundInParts,
+) -> Result<String, AllocError>
+    requires { AreParts asked.now.count }
+    ensures { let first = first_told (shown asked.now) (file_names files.entry.names.now) (all_bytes files.entry.texts.now) in
+        IfOk result (λ text. string_bytes text ≡ counts_text counts.skipped counts.all first spent asked.now.count) }
 {
-    let mut text = BesideText::new();
-    text.push_str(skipped_text(counts).as_str());
-    text.push_str(ended_text(spent, count).as_str());
-    text
+    let mut text = skipped_text(alloc, files, counts, asked)?;
+    text.push_str(ended_text(spent, asked.count).as_str())?;
+    Ok(text)
 }
 
 /// Tells a text on the errors. Where that can't be written, there is nobody to tell.
@@ -54,14 +72,25 @@ pub(crate) fn tell<E: Write>(text: &str, err: &mut E)
     let _ = put_text(err, text);
 }
 
-/// What is told of lines that are skipped, if there are any.
-fn skipped_text(counts: LineCounts) -> BesideLine
-    ensures { result.bytes ≡ where_some counts.skipped (skipped_line counts.skipped counts.all) }
+/// What is told of lines of files that are skipped, if there are any.
+fn skipped_text(
+    alloc: Global,
+    files: AnswerFiles<'_>,
+    counts: LineCounts,
+    asked: &BoundInParts,
+) -> Result<String, AllocError>
+    requires { AreParts asked.now.count }
+    ensures { let first = first_told (shown asked.now) (file_names files.entry.names.now) (all_bytes files.entry.texts.now) in
+        let line = skipped_line counts.skipped counts.all in
+        IfOk result (λ text. string_bytes text ≡ where_some counts.skipped (line ++ first)) }
 {
+    let mut text = String::new(alloc);
     if counts.skipped == 0 {
-        return BesideLine::new();
+        return Ok(text);
     }
-    skipped_line(counts)
+    text.push_str(skipped_line(counts).as_str())?;
+    text.push_str(first_told(alloc, files, asked)?.as_str())?;
+    Ok(text)
 }
 
 /// The line that tells how many of all lines are skipped.

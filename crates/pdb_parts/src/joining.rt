@@ -2,22 +2,24 @@
 
 ghost use Rattle.std.specs.Prelude.{◌≡◌, ◌≤◌, ◌<◌, ◌&&◌, ◌++◌, ℕ, false, filter, flat_map, length, not, slice_index_or, string_bytes, IfOk};
 ghost use Rattle.std.specs.List.{list_all, range_with_len};
-ghost use Rattle.puz_board.specs.MovesTexts.{Solves};
+ghost use Rattle.puz_goal.specs.Goals.{SolvesFor};
 ghost use Rattle.claim_text.specs.Claims as claims;
 ghost use Rattle.claim_text.specs.Claims.{ShownClaim};
 ghost use Rattle.claim_text.specs.Lines.{joined_line, shorter, told_line};
 ghost use Rattle.claim_text.specs.Parts.{AreParts};
+ghost use Rattle.pdb_request.specs.Asked.{file_names};
 ghost use Rattle.pdb_run.specs.Answers.{all_bytes};
 ghost use Rattle.pdb_run.specs.Writing.{digests_of};
 ghost use Rattle.pdb_parts.specs.Joining.{open_claim, whole_lines};
 ghost use Rattle.pdb_parts.specs.Steps.{MarksLines};
 ghost use Rattle.pdb_parts.specs.Stored.{IsJoined, shown};
 
-use crate::beside::{BesideText, counts_text};
+use crate::beside::{AnswerFiles, counts_text};
 use crate::marks::{BoundInParts, Marks, Told, mark_all};
 use claim_text::{Asks, Claim, Line, claim_line, joined_line, shorter_line};
 use move_strings::BoundPart;
 use puz_board::Board;
+use puz_goal::Goal;
 use sha2::{Digest, Sha256};
 use std::alloc::{AllocError, Global};
 
@@ -26,45 +28,52 @@ use std::alloc::{AllocError, Global};
 pub struct Joined {
     pub text: String,
     pub is_yes: bool,
-    pub beside: BesideText,
+    pub beside: String,
 }
 
-/// What is said of a bound in parts where these texts of answer lines were read: that it is false, where a whole line shows moves
+/// What is said of a bound in parts where these files of answer lines were read: that it is false, where a whole line shows moves
 /// for that; that it holds, where of each part one says so; or else the claims of the parts that are open.
-pub fn join(alloc: Global, texts: &[Vec<u8>], asked: &BoundInParts) -> Result<Joined, AllocError>
+pub fn join(
+    alloc: Global,
+    files: AnswerFiles<'_>,
+    asked: &BoundInParts,
+) -> Result<Joined, AllocError>
     requires { AreParts asked.now.count }
-    ensures { IfOk result (λ joined. IsJoined joined (all_bytes texts.now) (shown asked.now)) }
+    ensures { let names = file_names files.entry.names.now in
+        IfOk result (λ joined. IsJoined joined names (all_bytes files.entry.texts.now) (shown asked.now)) }
 {
-    let told = mark_all(alloc, texts, asked)?;
+    let told = mark_all(alloc, files.texts, asked)?;
     match told {
         Told::Against(moves) => {
-            let text = false_text(alloc, moves, &asked.board, asked.bound)?;
+            let text = false_text(alloc, asked.goal, moves, &asked.board, asked.bound)?;
             Ok(Joined {
                 text,
                 is_yes: false,
-                beside: BesideText::new(),
+                beside: String::new(alloc),
             })
         }
-        Told::Marked(marks) => join_marked(alloc, texts, &marks, asked),
+        Told::Marked(marks) => join_marked(alloc, files, &marks, asked),
     }
 }
 
 /// What is said where these are the marks of the lines.
 fn join_marked(
     alloc: Global,
-    texts: &[Vec<u8>],
+    files: AnswerFiles<'_>,
     marks: &Marks,
     asked: &BoundInParts,
 ) -> Result<Joined, AllocError>
     requires parts { AreParts asked.now.count }
-    requires marks { MarksLines (shown asked.now) (flat_map whole_lines (all_bytes texts.now)) marks.now }
-    ensures { IfOk result (λ joined. IsJoined joined (all_bytes texts.now) (shown asked.now)) }
+    requires marks { let lines = flat_map whole_lines (all_bytes files.texts.now) in
+        MarksLines (shown asked.now) lines marks.now }
+    ensures { let names = file_names files.entry.names.now in
+        IfOk result (λ joined. IsJoined joined names (all_bytes files.entry.texts.now) (shown asked.now)) }
 {
     let holds = marks.holds.as_slice();
     let spent = count_spent(holds, marks.spent.as_slice());
-    let beside = counts_text(marks.counts, spent, asked.count);
+    let beside = counts_text(alloc, files, marks.counts, spent, asked)?;
     if are_marked(holds) {
-        let text = bound_text(alloc, texts, asked)?;
+        let text = bound_text(alloc, files.texts, asked)?;
         return Ok(Joined {
             text,
             is_yes: true,
@@ -103,27 +112,34 @@ fn count_spent(holds: &[bool], spent: &[bool]) -> usize
 }
 
 /// The line that says that moves show the bound of a board to be false.
-fn false_text(alloc: Global, moves: &[u8], board: &Board, bound: u8) -> Result<String, AllocError>
-    requires { (n : ℕ) × Solves board.now moves.now n × (n < bound) }
+fn false_text(
+    alloc: Global,
+    goal: Goal,
+    moves: &[u8],
+    board: &Board,
+    bound: u8,
+) -> Result<String, AllocError>
+    requires { (n : ℕ) × SolvesFor goal board.now moves.now n × (n < bound) }
     ensures { let claim : ShownClaim = record { board = board.now; asks = claims.bound bound } in
-        IfOk result (λ text. string_bytes text ≡ told_line (shorter moves.now claim)) }
+        IfOk result (λ text. string_bytes text ≡ told_line goal (shorter moves.now claim)) }
 {
     let claim = Claim {
         board: *board,
         asks: Asks::Bound(bound),
     };
     let mut text = String::new(alloc);
-    text.push_str(shorter_line(moves, &claim).as_str())?;
+    text.push_str(shorter_line(goal, moves, &claim).as_str())?;
     Ok(text)
 }
 
 /// The digest lines of the texts, and the line of the bound behind them.
 fn bound_text(alloc: Global, texts: &[Vec<u8>], asked: &BoundInParts) -> Result<String, AllocError>
-    ensures { let line = joined_line asked.now.bound asked.now.count asked.now.board in
+    ensures { let line = joined_line asked.now.goal asked.now.bound asked.now.count asked.now.board in
         IfOk result (λ text. string_bytes text ≡ digests_of (all_bytes texts.now) ++ line) }
 {
     let mut text = digest_lines(alloc, texts)?;
-    text.push_str(joined_line(asked.bound, asked.count, &asked.board).as_str())?;
+    let line = joined_line(asked.goal, asked.bound, asked.count, &asked.board);
+    text.push_str(line.as_str())?;
     Ok(text)
 }
 

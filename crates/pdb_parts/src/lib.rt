@@ -4,13 +4,14 @@
 
 mod answers;
 mod beside;
+mod first;
 mod joining;
 pub mod laws;
 mod marks;
 mod runs;
 mod whole_lines;
 
-pub use beside::BesideText;
+pub use beside::AnswerFiles;
 pub use joining::{Joined, join};
 pub use marks::BoundInParts;
 pub use runs::run_parts;

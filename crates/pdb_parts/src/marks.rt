@@ -12,14 +12,16 @@ use crate::answers::{PartAnswer, read_answer};
 use crate::beside::LineCounts;
 use crate::whole_lines::split_whole_line;
 use puz_board::Board;
+use puz_goal::Goal;
 use std::alloc::{AllocError, Global};
 
-/// A bound of a board in so many parts.
+/// A bound of a board in so many parts, and where the blank is at home.
 #[derive(Debug, PartialEq, Eq, Drop)]
 pub struct BoundInParts {
     pub board: Board,
     pub bound: u8,
     pub count: u16,
+    pub goal: Goal,
 }
 
 /// What lines tell of a bound in parts that shows no moves against it: a mark for each part that holds, and for each whose search

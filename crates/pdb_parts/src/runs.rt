@@ -12,7 +12,7 @@ ghost use Rattle.pdb_parts.specs.Beside.{TellsOfAnswers};
 ghost use Rattle.pdb_parts.specs.Parts.{an_answers_text, parts_plan};
 ghost use Rattle.pdb_parts.specs.Steps.{TellsBeside, reading_plan};
 
-use crate::beside::tell;
+use crate::beside::{AnswerFiles, tell};
 use crate::joining::{Joined, join};
 use crate::marks::BoundInParts;
 use pdb_request::JoinParts;
@@ -76,6 +76,7 @@ fn with_bytes(
     requires { 1 ≤ length inputs.items }
     ensures bound { result.bound ≡ asked.now.bound }
     ensures count { result.count ≡ asked.now.count }
+    ensures goal { result.goal ≡ asked.now.goal }
     ensures inputs { all_bytes inputs.items ≡ result.board.items ∷ all_bytes result.answers.items }
 {
     let mut answers = inputs;
@@ -84,6 +85,7 @@ fn with_bytes(
         bound: asked.bound,
         count: asked.count,
         answers,
+        goal: asked.goal,
     }
 }
 
@@ -120,12 +122,17 @@ pub fn run_parts<'n, I: Io, E: Write>(
             return conclude(&reading, &answered, io);
         }
     };
+    let files = AnswerFiles {
+        names: asked.answers.as_slice(),
+        texts: read.answers.as_slice(),
+    };
     let asked = BoundInParts {
         board,
         bound: read.bound,
         count: read.count,
+        goal: read.goal,
     };
-    match join(alloc, read.answers.as_slice(), &asked) {
+    match join(alloc, files, &asked) {
         Ok(joined) => say_joined(&joined, io, err),
         Err(_) => say_no_memory(io),
     }
@@ -137,7 +144,7 @@ fn say_joined<'n, I: Io, E: Write>(joined: &Joined, io: &mut I, err: &mut E) -> 
     ensures same_streams { I.streams io.new ≡ I.streams io.old }
     ensures said { let status = status_of_reply joined.now.is_yes in
         IsSaid (string_bytes joined.now.text) status (I.world io.old) (I.world io.new) result.status }
-    ensures told { let text = joined.now.beside.bytes in
+    ensures told { let text = string_bytes joined.now.beside in
         TellsBeside text (E.contents err.old) (E.contents err.new) result.status }
 {
     let ended = say_text(joined.text.as_str(), cause_in(joined), io);

@@ -7,9 +7,9 @@ use Rattle.std.specs.Prelude.{◌==◌, ◌≢◌}
 use Rattle.std.specs.List.{list_all, range_with_len}
 use Rattle.claim_text.specs.Claims as claims
 use Rattle.claim_text.specs.Claims.{HasNo, ShownAsks, ShownClaim, part}
-use Rattle.claim_text.specs.Lines.{asks_words, claim_line, claim_words, joined_line, numbers, shorter, spaced_letters, told_line, told_text}
+use Rattle.claim_text.specs.Lines.{asks_words, claim_line, claim_words, joined_goal, joined_line, numbers, shorter, spaced_letters, told_line, told_text}
 use Rattle.claim_text.specs.Parts.{part_at}
-use Rattle.claim_text.proofs.AnswerLemmas.{answer-no_lf, claim-no_lf, decimal-no_lf, join_no_lf, no_side, numbers-no_lf}
+use Rattle.claim_text.proofs.AnswerLemmas.{answer-no_lf, claim-no_lf, decimal-no_lf, goal-no_lf, join_no_lf, no_side, numbers-no_lf}
 use Rattle.claim_text.proofs.CutLemmas.{other_rest}
 use Rattle.puz_board.specs.Boards.{IsBoard, side_of}
 use Rattle.puz_board.specs.BoardTexts.{board_of_text}
@@ -31,8 +31,11 @@ use Rattle.pdb_run.specs.Runs.{unkept_status, unkept_text, unlisted, unread, unw
 use Rattle.pdb_run.specs.Writing.{digests_of, reply_text}
 use Rattle.pdb_run.specs.declared.statuses.Status.{Status}
 use Rattle.pdb_run.specs.declared.statuses.Status.TheVariants.{Yes}
-use Rattle.pdb_verdict.specs.Inputs.{Given}
-use Rattle.pdb_verdict.specs.Lines.{counted, line_of_fault, line_of_verdict, reply_to}
+use Rattle.pdb_verdict.specs.Inputs.{Given, goal_of}
+use Rattle.puz_goal.specs.Goals.{goal_words}
+use Rattle.puz_goal.specs.declared.goals.Goal.{Goal}
+use Rattle.puz_goal.specs.declared.goals.Goal.TheVariants.{First, Last}
+use Rattle.pdb_verdict.specs.Lines.{counted_for, line_of_fault, line_of_verdict, reply_to}
 use Rattle.pdb_verdict.specs.Verdicts.{TellsResult}
 use Rattle.pdb_verdict.specs.declared.verdicts.Fault.{Fault}
 use Rattle.pdb_verdict.specs.declared.verdicts.Fault.TheVariants as fault
@@ -121,27 +124,29 @@ exact_one side mask entries unreachable deepest =
     let is_d = more c (codes " unreachable ") unreachable is_c (known (codes " unreachable ") refl) in
     more d (codes " deepest ") deepest is_d (known (codes " deepest ") refl)
 
--- a text and a number are the last line, where they stand alone
-pub counted_last : (text : Bytes) (n : ℕ) → HasNo 10 text → IsLast (text ++ decimal n) (counted text n)
-counted_last text n none = line_last (text ++ decimal n) (join_no_lf text (decimal n) none (decimal-no_lf n))
+-- a text, a number and the words of a goal are the last line, where they stand alone
+pub counted_last : (goal : Goal) (text : Bytes) (n : ℕ) → HasNo 10 text → IsLast (text ++ decimal n ++ goal_words goal) (counted_for goal text n)
+counted_last goal text n none =
+    line_last (text ++ decimal n ++ goal_words goal)
+    (join_no_lf (text ++ decimal n) (goal_words goal) (join_no_lf text (decimal n) none (decimal-no_lf n)) (goal-no_lf goal))
 
 yes_answer : (line lines : Bytes) → IsLast line lines → IsAnswerText lines Yes
 yes_answer line lines last = (line, last, λ other. absurd (other refl))
 
-verdict_answer : (v : Verdict) → IsAnswerText (line_of_verdict v) Yes
-verdict_answer (verdict.Solution n) = yes_answer _ _ (counted_last (codes "solution ") n (known (codes "solution ") refl))
-verdict_answer (verdict.Exact side mask census) =
+verdict_answer : (goal : Goal) (v : Verdict) → IsAnswerText (line_of_verdict goal v) Yes
+verdict_answer goal (verdict.Solution n) = yes_answer _ _ (counted_last goal (codes "solution ") n (known (codes "solution ") refl))
+verdict_answer goal (verdict.Exact side mask census) =
     yes_answer _ _ (line_last (exact_words side mask census.entries census.unreachable census.deepest)
     (exact_one side mask census.entries census.unreachable census.deepest))
-verdict_answer (verdict.Bound n) = yes_answer _ _ (counted_last (codes "bound ") n (known (codes "bound ") refl))
-verdict_answer (verdict.Optimal n) = yes_answer _ _ (counted_last (codes "optimal ") n (known (codes "optimal ") refl))
+verdict_answer goal (verdict.Bound n) = yes_answer _ _ (counted_last goal (codes "bound ") n (known (codes "bound ") refl))
+verdict_answer goal (verdict.Optimal n) = yes_answer _ _ (counted_last goal (codes "optimal ") n (known (codes "optimal ") refl))
 
 -- a reply's text ends as its status says
 abbrev IsAnswerReply : Reply → Type 0
 IsAnswerReply reply = IsAnswerText (reply_text reply) (status_of_reply reply.is_yes)
 
 result_answer : (inputs : Given) (answer : Result Verdict Fault) → IsAnswerReply (reply_to inputs answer)
-result_answer inputs (Ok v) = digested _ [] (line_of_verdict v) Yes (verdict_answer v)
+result_answer inputs (Ok v) = digested _ [] (line_of_verdict (goal_of inputs) v) Yes (verdict_answer (goal_of inputs) v)
 result_answer inputs (Err refused) = digested _ [] (line_of_fault refused) _ (else_answer (line_of_fault refused) _ (fault_line refused))
 
 check_answer : (inputs : Given) (reply : Reply) → TellsResult inputs reply → IsAnswerReply reply
@@ -151,7 +156,7 @@ check_answer inputs reply tells = subst IsAnswerReply (sym tells.told) (result_a
 
 build_answer : (build : Build) → IsAnswerReply (reply_to_build build)
 build_answer (unbuilt refused) = digested [] [] _ _ (else_answer (line_of_fault refused) _ (fault_line refused))
-build_answer (built file said) = digested [] (file ∷ []) (line_of_verdict said) Yes (verdict_answer said)
+build_answer (built file said) = digested [] (file ∷ []) (line_of_verdict First said) Yes (verdict_answer First said)
 
 -- the letters of moves are on one line
 letters_one : (moves : Bytes) → HasNo 10 (letters_of moves)
@@ -176,33 +181,41 @@ else_moves behind one = (
   join_no_lf (codes "moves") behind (known (codes "moves") refl) one,
 )
 
-moves_else : (letters : Bytes) → HasNo 10 letters → IsElseLine (moves_line letters)
-moves_else [] one = (codes "moves", refl, else_moves [] one)
-moves_else (letter ∷ letters) one =
+moves_else : (goal : Goal) (letters : Bytes) → HasNo 10 letters → IsElseLine (moves_line goal letters)
+moves_else goal [] one = (codes "moves" ++ goal_words goal, refl, else_moves (goal_words goal) (goal-no_lf goal))
+moves_else goal (letter ∷ letters) one =
     let spaced = codes " " ++ (letter ∷ letters) in
-    (codes "moves" ++ spaced, refl, else_moves spaced (join_no_lf (codes " ") (letter ∷ letters) (known (codes " ") refl) one))
+    let told = join_no_lf spaced (goal_words goal) (join_no_lf (codes " ") (letter ∷ letters) (known (codes " ") refl) one) (goal-no_lf goal) in
+    (codes "moves" ++ (spaced ++ goal_words goal), refl, else_moves (spaced ++ goal_words goal) told)
 
 -- nor does its text
-pub moves_say_no_yes : (moves : Bytes) → IsOfNoYes (moves_line (letters_of moves))
-moves_say_no_yes moves = else_alone (moves_line (letters_of moves)) (moves_else (letters_of moves) (letters_one moves))
+pub moves_say_no_yes : (goal : Goal) (moves : Bytes) → IsOfNoYes (moves_line goal (letters_of moves))
+moves_say_no_yes goal moves = else_alone (moves_line goal (letters_of moves)) (moves_else goal (letters_of moves) (letters_one moves))
 
-search_answer : (tables : List Bytes) (outcome : SearchOutcome) → IsAnswerReply (reply_to_search tables outcome)
-search_answer tables (unmade refused) = digested tables [] _ _ (else_answer (line_of_fault refused) _ (fault_line refused))
-search_answer tables (searched moves log n) =
-    let last = counted_last (codes "optimal ") n (known (codes "optimal ") refl) in
+search_answer : (goal : Goal) (tables : List Bytes) (outcome : SearchOutcome) → IsAnswerReply (reply_to_search goal tables outcome)
+search_answer goal tables (unmade refused) = digested tables [] _ _ (else_answer (line_of_fault refused) _ (fault_line refused))
+search_answer goal tables (searched moves log n) =
+    let last = counted_last goal (codes "optimal ") n (known (codes "optimal ") refl) in
     digested tables (log ∷ []) _ Yes
-    (yes_answer (codes "optimal " ++ decimal n) _ (behind_lines (moves_line (letters_of moves)) _ (counted (codes "optimal ") n) (moves_say_no_yes moves) last))
+    (yes_answer (codes "optimal " ++ decimal n ++ goal_words goal) _
+    (behind_lines (moves_line goal (letters_of moves)) _ (counted_for goal (codes "optimal ") n) (moves_say_no_yes goal moves) last))
 
 -- ---- parts of bounds
 
+-- what the goal adds to them is in one line
+joined_goal_one : (goal : Goal) → HasNo 10 (joined_goal goal)
+joined_goal_one First = All-nil (λ b. not (b == 10) ≡ true)
+joined_goal_one Last = known (joined_goal Last) refl
+
 -- the words of the line of a bound in parts
-abbrev pub joined_words : (n count : ℕ) → List ℕ → Bytes
-joined_words n count b =
+abbrev pub joined_words : Goal → (n count : ℕ) → List ℕ → Bytes
+joined_words goal n count b =
     codes "joined bound " ++ decimal n ++ codes " of" ++ numbers b ++ codes " from " ++ decimal count ++ codes " parts, by lines that were read"
+    ++ joined_goal goal
 
 -- they are one line
-pub joined_one : (n count : ℕ) (b : List ℕ) → HasNo 10 (joined_words n count b)
-joined_one n count b =
+pub joined_one : (goal : Goal) (n count : ℕ) (b : List ℕ) → HasNo 10 (joined_words goal n count b)
+joined_one goal n count b =
     let upto_bound = codes "joined bound " ++ decimal n in
     let upto_board = upto_bound ++ codes " of" ++ numbers b in
     let upto_count = upto_board ++ codes " from " ++ decimal count in
@@ -211,13 +224,12 @@ joined_one n count b =
     let board = join_no_lf (upto_bound ++ codes " of") (numbers b) of_board (numbers-no_lf b) in
     let from_count = join_no_lf upto_board (codes " from ") board (known (codes " from ") refl) in
     let count_told = join_no_lf (upto_board ++ codes " from ") (decimal count) from_count (decimal-no_lf count) in
-    join_no_lf upto_count (codes " parts, by lines that were read") count_told (known (codes " parts, by lines that were read") refl)
+    let read = join_no_lf upto_count (codes " parts, by lines that were read") count_told (known (codes " parts, by lines that were read") refl) in
+    join_no_lf (upto_count ++ codes " parts, by lines that were read") (joined_goal goal) read (joined_goal_one goal)
 
 -- which their end makes whole
-pub joined_ended : (n count : ℕ) (b : List ℕ) → joined_line n count b ≡ joined_words n count b ++ codes "\n"
-joined_ended n count b =
-    sym (append_assoc (codes "joined bound " ++ decimal n ++ codes " of" ++ numbers b ++ codes " from " ++ decimal count)
-    (codes " parts, by lines that were read") (codes "\n"))
+pub joined_ended : (goal : Goal) (n count : ℕ) (b : List ℕ) → joined_line goal n count b ≡ joined_words goal n count b ++ codes "\n"
+joined_ended goal n count b = refl
 
 digit_other : (digit letter : ℕ) → digit ≤ 57 → 57 < letter → digit ≢ letter
 digit_other digit letter low high = λ same. omega (arith, low, high, same)
@@ -279,16 +291,17 @@ joined_answer : (answers : List Bytes) (asked : ShownBoundInParts) (moves : Opti
     → IsAnswerReply (joined_reply answers asked moves)
 joined_answer answers asked (Some moves) board =
     let claim : ShownClaim = record { board = asked.board; asks = claims.bound asked.bound } in
-    let words = codes "O2 by" ++ spaced_letters moves ++ codes " of" ++ claim_words claim in
-    else_answer (told_line (shorter moves claim)) _ (told_text (shorter moves claim), refl, refused_whole words (answer-no_lf (shorter moves claim) tt))
+    let words = codes "O2 by" ++ spaced_letters moves ++ codes " of" ++ claim_words claim ++ goal_words asked.goal in
+    else_answer (told_line asked.goal (shorter moves claim)) _
+    (told_text asked.goal (shorter moves claim), refl, refused_whole words (answer-no_lf asked.goal (shorter moves claim) tt))
 joined_answer answers asked None board = go (are_told (flat_map whole_lines answers) asked) refl
   where
     go : (told : Bool) → are_told (flat_map whole_lines answers) asked ≡ told
         → IsAnswerReply (cond told (bound_reply answers asked) (open_reply answers asked))
     go true is =
-        let words = joined_words asked.bound asked.count asked.board in
-        let last = line_last words (joined_one asked.bound asked.count asked.board) in
-        digested answers [] _ Yes (yes_answer words _ (subst (IsLast words) (sym (joined_ended asked.bound asked.count asked.board)) last))
+        let words = joined_words asked.goal asked.bound asked.count asked.board in
+        let last = line_last words (joined_one asked.goal asked.bound asked.count asked.board) in
+        digested answers [] _ Yes (yes_answer words _ (subst (IsLast words) (sym (joined_ended asked.goal asked.bound asked.count asked.board)) last))
     go false is =
         let left = some_fail (is_told (flat_map whole_lines answers) asked) (range_with_len 0 asked.count) is in
         subst (λ (indices : List ℕ). IsAnswerText (flat_map (open_claim asked) indices) (status_of_reply false)) (sym left.2)
@@ -316,7 +329,7 @@ right_answer (table a) old inputs reply once is = check_answer _ reply is.1.2
 right_answer (bound a) old inputs reply once is = check_answer _ reply is.1.2
 right_answer (optimal a) old inputs reply once is = check_answer _ reply is.1.2
 right_answer (make_table a) old inputs reply once is = subst IsAnswerReply (sym is.1.told) (build_answer is.1.build)
-right_answer (solve a) old inputs reply once is = subst IsAnswerReply (sym is.1.4.told) (search_answer is.1.2 is.1.4.outcome)
+right_answer (solve a) old inputs reply once is = subst IsAnswerReply (sym is.1.4.told) (search_answer a.goal is.1.2 is.1.4.outcome)
 right_answer (prove a) old inputs reply once is = absurd (once a refl)
 right_answer (parts a) old inputs reply once is = parts_answer a inputs reply is.1
 

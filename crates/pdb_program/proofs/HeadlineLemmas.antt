@@ -5,7 +5,7 @@ use Rattle.std.specs.Option.{option_map_or}
 use Rattle.std.proofs.lemmas.List.{append-nil, append_cancel_left, length-drop}
 use Rattle.std.specs.Prelude.{◌≢◌}
 use Rattle.claim_text.specs.Lines.{numbers}
-use Rattle.claim_text.proofs.AnswerLemmas.{decimal-no_lf, join_no_lf}
+use Rattle.claim_text.proofs.AnswerLemmas.{decimal-no_lf, goal-no_lf, join_no_lf}
 use Rattle.tab_file.specs.TableFiles.{most_table_bytes}
 use Rattle.tab_file.specs.Tables.{Table}
 use Rattle.tab_rule.specs.ExactTables.{IsExactFile}
@@ -21,7 +21,8 @@ use Rattle.pdb_run.specs.Writing.{digests_of}
 use Rattle.pdb_run.specs.Statuses.{status_number}
 use Rattle.pdb_run.specs.declared.statuses.Status.{Status}
 use Rattle.pdb_run.specs.declared.statuses.Status.TheVariants.{Fault, NoMemory, Yes, Refused}
-use Rattle.pdb_verdict.specs.Inputs.{Given, files_in_order, puzzle_text, table_file}
+use Rattle.puz_goal.specs.Goals.{goal_words}
+use Rattle.pdb_verdict.specs.Inputs.{Given, files_in_order, goal_of, puzzle_text, table_file}
 use Rattle.pdb_verdict.specs.Lines.{digested_of, line_of_verdict}
 use Rattle.pdb_verdict.specs.Verdicts.{HoldsOfSolutions, IsTrueOf}
 use Rattle.pdb_verdict.specs.declared.verdicts.Verdict.{Verdict}
@@ -90,7 +91,7 @@ module _ (before later : Files) (input start lines : Bytes) (calls calls_after :
   checked : {A : Type 0} (wanted : List Wanted) (given_of : A → Given)
       → (a : IsAnswered (check_plan wanted given_of) old new Yes) → let of = given_of a.right.1.0 in
       (v : Verdict) × AreRead (Some before) (Some input) wanted (files_in_order of) × IsTrueOf of v
-      × HoldsOfSolutions of v × ((w : Verdict) (line : Bytes) → v ≡ w → IsLast line (line_of_verdict w) → IsLast line lines)
+      × HoldsOfSolutions of v × ((w : Verdict) (line : Bytes) → v ≡ w → IsLast line (line_of_verdict (goal_of of) w) → IsLast line lines)
   checked wanted given_of a =
       let is = a.right.1 in
       let of = given_of is.0 in
@@ -99,7 +100,7 @@ module _ (before later : Files) (input start lines : Bytes) (calls calls_after :
         rw is.1 at a.right.0,
         yes.is_true,
         yes.holds,
-        λ w line same is_last. last (digested_of of) [] line (line_of_verdict w) is_last (rw (yes.told, same) at a.lines.0),
+        λ w line same is_last. last (digested_of of) [] line (line_of_verdict (goal_of of) w) is_last (rw (yes.told, same) at a.lines.0),
       )
 
   -- the last line says a yes, and this is true
@@ -111,15 +112,16 @@ module _ (before later : Files) (input start lines : Bytes) (calls calls_after :
 
   yes_by : (asked : Asked) → AnswersOnce asked → IsAnswered (plan_of asked) old new Yes → EndsWithYes asked
   yes_by (replay arguments) once a =
-      let all = checked (replay_inputs arguments) puzzle_text a in
+      let goal = arguments.goal in
+      let all = checked (replay_inputs arguments) (puzzle_text goal) a in
       let puzzle = a.right.1.0 in
       let read = replay_stood (Some before) (Some input) arguments puzzle all.1 in
       let n = all.2.0 in
-      let is_last = all.4 _ (codes "solution " ++ decimal n) all.2.2 (counted_last (codes "solution ") n (known (codes "solution ") refl)) in
+      let is_last = all.4 _ (codes "solution " ++ decimal n ++ goal_words goal) all.2.2 (counted_last goal (codes "solution ") n (known (codes "solution ") refl)) in
       record {
-        line = codes "solution " ++ decimal n;
+        line = codes "solution " ++ decimal n ++ goal_words goal;
         is_last = is_last;
-        says = (codes " " ++ decimal n, inl refl);
+        says = (codes " " ++ decimal n ++ goal_words goal, inl refl);
         holds = (puzzle, n, stood arguments.puzzle puzzle read, refl, all.2.1);
       }
   yes_by (table arguments) once a =
@@ -145,9 +147,9 @@ module _ (before later : Files) (input start lines : Bytes) (calls calls_after :
       let read = log_stood (Some before) (Some input) Bound arguments files all.1 in
       let n = all.3.0 in
       record {
-        line = codes "bound " ++ decimal n;
-        is_last = all.4 _ _ all.3.2 (counted_last (codes "bound ") n (known (codes "bound ") refl));
-        says = (codes " " ++ decimal n, inr (inr (inl refl)));
+        line = codes "bound " ++ decimal n ++ goal_words arguments.goal;
+        is_last = all.4 _ _ all.3.2 (counted_last arguments.goal (codes "bound ") n (known (codes "bound ") refl));
+        says = (codes " " ++ decimal n ++ goal_words arguments.goal, inr (inr (inl refl)));
         holds = (files.text, n, read.text, refl, all.3.1);
       }
   yes_by (optimal arguments) once a =
@@ -156,9 +158,9 @@ module _ (before later : Files) (input start lines : Bytes) (calls calls_after :
       let read = log_stood (Some before) (Some input) Optimum arguments files all.1 in
       let n = all.3.0 in
       record {
-        line = codes "optimal " ++ decimal n;
-        is_last = all.4 _ _ all.3.2 (counted_last (codes "optimal ") n (known (codes "optimal ") refl));
-        says = (codes " " ++ decimal n, inr (inr (inr (inl refl))));
+        line = codes "optimal " ++ decimal n ++ goal_words arguments.goal;
+        is_last = all.4 _ _ all.3.2 (counted_last arguments.goal (codes "optimal ") n (known (codes "optimal ") refl));
+        says = (codes " " ++ decimal n ++ goal_words arguments.goal, inr (inr (inr (inl refl))));
         holds = (files.text, n, all.3.1.solved, read.text, refl, all.3.1.least.bounded);
       }
   yes_by (make_table arguments) once a =
@@ -180,10 +182,12 @@ module _ (before later : Files) (input start lines : Bytes) (calls calls_after :
       let f = kept.found in
       let n = kept.n in
       let read = search_stood (Some before) (Some input) arguments f.board_text f.set_text kept.files f.read in
-      let solution = told_solution f.board kept.moves n f.solved in
+      let goal = arguments.goal in
+      let words = goal_words goal in
+      let solution = told_solution goal f.board kept.moves n f.solved in
       let told = told_moves (letters_of kept.moves) in
-      let ml = moves_line (letters_of kept.moves) in
-      let line = codes "optimal " ++ decimal n in
+      let ml = moves_line goal (letters_of kept.moves) in
+      let line = codes "optimal " ++ decimal n ++ words in
       let tables = digests_of kept.files in
       let kept_digest = digests_of (kept.log ∷ []) in
       let digests = tables ++ kept_digest in
@@ -192,18 +196,19 @@ module _ (before later : Files) (input start lines : Bytes) (calls calls_after :
         above = digests ++ ml;
         whole = append_cancel_left start lines _ kept.lines.0 ∙ sym (append_assoc tables kept_digest (ml ++ (line ++ codes "\n")))
             ∙ sym (append_assoc digests ml (line ++ codes "\n"));
-        none = joined_lines SaysNoYes digests ml no_digest (moves_say_no_yes kept.moves);
-        one = join_no_lf (codes "optimal ") (decimal n) (known (codes "optimal ") refl) (decimal-no_lf n);
+        none = joined_lines SaysNoYes digests ml no_digest (moves_say_no_yes goal kept.moves);
+        one = join_no_lf (codes "optimal " ++ decimal n) words
+            (join_no_lf (codes "optimal ") (decimal n) (known (codes "optimal ") refl) (decimal-no_lf n)) (goal-no_lf goal);
       } in
-      let moves_above : HasLine digests (codes "moves" ++ told) [] (digests ++ ml) = (
+      let moves_above : HasLine digests (codes "moves" ++ told ++ words) [] (digests ++ ml) = (
         subst AreWholeLines (sym no_digest.1) (whole_lines no_digest.0),
-        join_no_lf (codes "moves") told (known (codes "moves") refl) solution.one_line,
+        join_no_lf (codes "moves" ++ told) words (join_no_lf (codes "moves") told (known (codes "moves") refl) solution.one_line) (goal-no_lf goal),
         ap (λ (t : Bytes). digests ++ t) solution.line,
       ) in
       record {
         line = line;
         is_last = is_last;
-        says = (codes " " ++ decimal n, inr (inr (inr (inl refl))));
+        says = (codes " " ++ decimal n ++ words, inr (inr (inr (inl refl))));
         holds = (
           f.board_text,
           f.board,
@@ -230,13 +235,14 @@ module _ (before later : Files) (input start lines : Bytes) (calls calls_after :
       let is = a.right.1 in
       let said = yes_says arguments a.inputs a.reply is (says a.reply.is_yes true a.is_status) in
       let read = rw is.order at a.right.0 in
-      let words = joined_words arguments.bound arguments.count said.board in
+      let goal = arguments.goal in
+      let words = joined_words goal arguments.bound arguments.count said.board in
       let is_last : IsLast words lines = record {
         above = digests_of is.answers;
         whole = append_cancel_left start lines _ a.lines.0 ∙ said.line
-            ∙ ap (λ (t : Bytes). digests_of is.answers ++ t) (joined_ended arguments.bound arguments.count said.board);
+            ∙ ap (λ (t : Bytes). digests_of is.answers ++ t) (joined_ended goal arguments.bound arguments.count said.board);
         none = digests_say_no_yes is.answers;
-        one = joined_one arguments.bound arguments.count said.board;
+        one = joined_one goal arguments.bound arguments.count said.board;
       } in
       record {
         line = words;

@@ -18,6 +18,9 @@ use Rattle.claim_text.specs.Parts.{AreParts, part_at}
 use Rattle.claim_text.proofs.ClaimLemmas.{one_board}
 use Rattle.claim_text.proofs.CutLemmas.{one_cut}
 use Rattle.claim_text.proofs.DecimalLemmas.{decimal-no, one_decimal}
+use Rattle.puz_goal.specs.Goals.{goal_words}
+use Rattle.puz_goal.specs.Turning.{board_for}
+use Rattle.puz_goal.specs.declared.goals.Goal.{Goal}
 use Rattle.byte_io.specs.Shelf.{Bytes}
 use Rattle.pdb_parts.specs.Joining.{ShownBoundInParts, whole_lines}
 use Rattle.pdb_parts.specs.Laws.{AreTrueAnswers, IsTrueLine}
@@ -68,14 +71,15 @@ same_part p q n m text other is_p is_q few least is =
     record { index = index.0; count = count.0; bound = bound.0; board = ap (drop 2) bound.1 }
 
 -- so where a line says truly that a part holds, that part of that bound of that board does
-holds_of_part : (p : ShownPart) (n : ℕ) (b : List ℕ) (line : Bytes) → IsPart p → n ≤ 255 → IsBoard b → line ≡ line_of p n (numbers b) → HoldsOfPart line
-    → IsPartBounded p n b
-holds_of_part p n b line is_part few board is holds =
+holds_of_part : (goal : Goal) (p : ShownPart) (n : ℕ) (b : List ℕ) (line : Bytes) → IsPart p → n ≤ 255 → IsBoard b
+    → line ≡ line_of p n (numbers b) ++ goal_words goal → HoldsOfPart goal line → IsPartBounded p n (board_for goal b)
+holds_of_part goal p n b line is_part few board is holds =
     let q = holds.0 in
-    let same = same_part q p holds.1 n holds.2 (numbers b) holds.4 is_part holds.5 few (sym holds.8 ∙ is) in
+    let words = append_cancel_right (line_of q holds.1 holds.2) (line_of p n (numbers b)) (goal_words goal) (sym holds.8 ∙ is) in
+    let same = same_part q p holds.1 n holds.2 (numbers b) holds.4 is_part holds.5 few words in
     let one : holds.3 ≡ b = one_board holds.2 holds.3 b holds.6 (subst (λ (text : Bytes). Spells text b) (sym same.board) (numbers_spelt b board)) in
     let part : q ≡ p = λ i. record { index = same.index i; count = same.count i } in
-    subst (λ (t : ShownPart × ℕ × List ℕ). IsPartBounded t.0 t.1 t.2) (λ i. (part i, same.bound i, one i)) holds.7
+    subst (λ (t : ShownPart × ℕ × List ℕ). IsPartBounded t.0 t.1 (board_for goal t.2)) (λ i. (part i, same.bound i, one i)) holds.7
 
 -- ---- the whole lines of a text
 
@@ -121,22 +125,22 @@ all_lines Holds (suc n) text (Some end) is short each =
 
 -- what `prove` wrote of parts is true
 module _ (asked : ShownBoundInParts) (parts : AreParts asked.count) (few : asked.bound ≤ 255) (board : IsBoard asked.board) where
-  true_line : (text above line below : Bytes) → HasPartsOfProve text → HasLine above line below text → IsTrueLine asked (line ++ codes "\n")
+  true_line : (text above line below : Bytes) → HasPartsOfProve asked.goal text → HasLine above line below text → IsTrueLine asked (line ++ codes "\n")
   true_line text above line below of_prove has i below_count is =
       let p = part_at asked.count i in
-      let words : line ≡ line_of p asked.bound (numbers asked.board) = append_cancel_right line _ (codes "\n") is in
+      let words : line ≡ line_of p asked.bound (numbers asked.board) ++ goal_words asked.goal = append_cancel_right line _ (codes "\n") is in
       let run = of_prove above line below has (_, words) in
       let is_part : IsPart p = record { below = below_count; odd = parts.odd; few = parts.few } in
-      holds_of_part p asked.bound asked.board line is_part few board words
-      (run.6.parts_true run.0 refl run.7 line run.8 run.9 (_, words))
+      let holds = run.7.parts_true run.0 refl run.8 line run.9 run.10 (_, words) in
+      holds_of_part asked.goal p asked.bound asked.board line is_part few board words (subst (λ goal. HoldsOfPart goal line) run.1 holds)
 
-  true_texts : (texts : List Bytes) → All HasPartsOfProve texts → AreTrueAnswers asked texts
+  true_texts : (texts : List Bytes) → All (HasPartsOfProve asked.goal) texts → AreTrueAnswers asked texts
   true_texts [] each = All-nil (IsTrueLine asked)
   true_texts (text ∷ texts) each =
       All-append (IsTrueLine asked) (whole_lines text) (flat_map whole_lines texts)
       (all_lines (IsTrueLine asked) (length text) text (position (λ byte. eqb byte 10) text) refl (omega arith)
-      (λ above line below has. true_line text above line below (All-head HasPartsOfProve text texts each) has))
-      (true_texts texts (All-tail HasPartsOfProve text texts each))
+      (λ above line below has. true_line text above line below (All-head (HasPartsOfProve asked.goal) text texts each) has))
+      (true_texts texts (All-tail (HasPartsOfProve asked.goal) text texts each))
 
 same_files : (files others : List Bytes) → map Some files ≡ map Some others → files ≡ others
 same_files [] [] is = refl
@@ -153,5 +157,5 @@ parts_give a before later input lines status answers count few headline read eac
     let holds = headline.lines_true above line below has says in
     let same : holds.7 ≡ answers = same_files holds.7 answers (sym holds.8 ∙ read) in
     let b = holds.2 in
-    let asked : ShownBoundInParts = record { board = b; bound = a.bound; count = a.count } in
-    (holds.0, b, holds.3, holds.4, holds.10 (true_texts asked count few holds.4.board holds.7 (subst (All HasPartsOfProve) (sym same) each)))
+    let asked : ShownBoundInParts = record { board = b; bound = a.bound; count = a.count; goal = a.goal } in
+    (holds.0, b, holds.3, holds.4, holds.10 (true_texts asked count few holds.4.board holds.7 (subst (All (HasPartsOfProve a.goal)) (sym same) each)))

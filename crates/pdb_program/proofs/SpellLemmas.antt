@@ -5,7 +5,7 @@ use Rattle.std.proofs.lemmas.Bool.{and_from, cond-true, le-leb, lt-ltb, ne_eqb, 
 use Rattle.std.proofs.lemmas.Fmt.{decimal_is_IsNumeral, length-decimal-le}
 use Rattle.std.proofs.lemmas.List.{append-nil}
 use Rattle.std.proofs.lemmas.Grind.{get_or_default_zero}
-use Rattle.std.proofs.lemmas.List.Elements.{All-cons, All-head, All-nil, All-tail}
+use Rattle.std.proofs.lemmas.List.Elements.{All-cons, All-filter, All-head, All-nil, All-tail}
 use Rattle.std.proofs.lemmas.List.Splits.{slice_split-cons_yes, slice_split_at, slice_split_none}
 use Rattle.std.proofs.lemmas.Str.Parse.{digit_from_value}
 use Rattle.std.specs.Prelude.{⊤, All, filter, nat_lt}
@@ -14,12 +14,15 @@ use Rattle.std.specs.List.{AllPass, list_any, slice_split}
 use Rattle.std.specs.Str.Parse.{AllDigits, digits_value}
 use Rattle.puz_board.specs.Boards.{IsBoard, side_of}
 use Rattle.puz_board.specs.BoardTexts.{IsShortNumeral, Spells, is_separator, numbers_in, parts}
-use Rattle.puz_board.specs.MovesTexts.{Solves, is_letter}
+use Rattle.puz_board.specs.Boards.{blank}
+use Rattle.puz_board.specs.MovesTexts.{is_letter}
+use Rattle.puz_board.specs.Paths.{Leads}
+use Rattle.puz_goal.specs.Goals.{IsBoundedFor, SolvesFor}
+use Rattle.puz_goal.specs.declared.goals.Goal.{Goal}
 use Rattle.puz_board.proofs.BoardLemmas.{cells_most}
-use Rattle.set_sum.specs.Bounds.{IsBounded}
 use Rattle.claim_text.specs.Claims.{letters, moves}
 use Rattle.claim_text.specs.Lines.{claim_words, numbers, spaced_letters}
-use Rattle.claim_text.proofs.LetterLemmas.{letters-none, letters_solve}
+use Rattle.claim_text.proofs.LetterLemmas.{letters-none, moves_of-letters}
 use Rattle.byte_io.specs.Shelf.{Bytes}
 use Rattle.pdb_verdict.specs.Bound.{IsBoundedText}
 use Rattle.pdb_verdict.specs.Replay.{IsSolvedPuzzle}
@@ -145,14 +148,24 @@ pub numbers_spelt : (b : List ℕ) → IsBoard b → Spells (numbers b) b
 numbers_spelt b board = subst (λ text. Spells text b) (append-nil (numbers b)) (spelt [] refl tt b board)
 
 -- and those of a board that is bounded are a text of one
-pub numbers_bounded : (b : List ℕ) (n : ℕ) → IsBoard b → IsBounded b n → IsBoundedText (numbers b) n
-numbers_bounded b n board bounded = (b, numbers_spelt b board, bounded)
+pub numbers_bounded : (goal : Goal) (b : List ℕ) (n : ℕ) → IsBoard b → IsBoundedFor goal b n → IsBoundedText goal (numbers b) n
+numbers_bounded goal b n board bounded = (b, numbers_spelt b board, bounded)
 
 -- ---- the letters of moves
 
 -- a space before letters changes nothing
-spaced_solve : (b text : List ℕ) (n : ℕ) → Solves b text n → Solves b (32 ∷ text) n
-spaced_solve b text n solves = record {
+letters_solve : (goal : Goal) (b text : List ℕ) (n : ℕ) → SolvesFor goal b text n → SolvesFor goal b (letters text) n
+letters_solve goal b text n solves = record {
+  letters = All-filter is_letter (λ byte. (is_letter byte || is_separator byte) ≡ true) text solves.letters;
+  path = solves.path;
+  led = subst (λ ms. Leads (side_of b) (blank b) ms solves.path) (sym (moves_of-letters text)) solves.led;
+  solution = solves.solution;
+  count = solves.count;
+  few = solves.few;
+}
+
+spaced_solve : (goal : Goal) (b text : List ℕ) (n : ℕ) → SolvesFor goal b text n → SolvesFor goal b (32 ∷ text) n
+spaced_solve goal b text n solves = record {
   letters = All-cons (λ byte. is_letter byte || is_separator byte ≡ true) 32 text refl solves.letters;
   path = solves.path;
   led = solves.led;
@@ -161,26 +174,27 @@ spaced_solve b text n solves = record {
   few = solves.few;
 }
 
-letters_spaced : (b text : List ℕ) (n : ℕ) → Solves b text n → Solves b (spaced_letters text) n
-letters_spaced b text n solves = go (list_any is_letter text) refl
+letters_spaced : (goal : Goal) (b text : List ℕ) (n : ℕ) → SolvesFor goal b text n → SolvesFor goal b (spaced_letters text) n
+letters_spaced goal b text n solves = go (list_any is_letter text) refl
   where
-    go : (some : Bool) → list_any is_letter text ≡ some → Solves b (cond some (codes " " ++ letters text) []) n
-    go true is = spaced_solve b (letters text) n (letters_solve b text n solves)
-    go false is = subst (λ t. Solves b t n) (letters-none text is) (letters_solve b text n solves)
+    go : (some : Bool) → list_any is_letter text ≡ some → SolvesFor goal b (cond some (codes " " ++ letters text) []) n
+    go true is = spaced_solve goal b (letters text) n (letters_solve goal b text n solves)
+    go false is = subst (λ t. SolvesFor goal b t n) (letters-none text is) (letters_solve goal b text n solves)
 
 -- so a board and moves that solve it are a puzzle text
-words_solve : (b text : List ℕ) (n : ℕ) → IsBoard b → Solves b text n → IsSolvedPuzzle (claim_words (record { board = b; asks = moves text })) n
-words_solve b text n board solves = record {
+words_solve : (goal : Goal) (b text : List ℕ) (n : ℕ) → IsBoard b → SolvesFor goal b text n
+    → IsSolvedPuzzle goal (claim_words (record { board = b; asks = moves text })) n
+words_solve goal b text n board solves = record {
   board = b;
   board_text = numbers b ++ codes " ";
   moves_text = spaced_letters text;
   whole = sym (append_assoc (numbers b) (codes " ") (codes ";" ++ spaced_letters text));
   spelt = spelt (codes " ") refl refl b board;
-  solved = letters_spaced b text n solves;
+  solved = letters_spaced goal b text n solves;
 }
 
 -- of which this bound holds, where it does of the board
-pub words_optimal : (b text : List ℕ) (n : ℕ) → IsBoard b → Solves b text n → IsBounded b n
-    → (solved : IsSolvedPuzzle (claim_words (record { board = b; asks = moves text })) n) × IsBounded solved.board n
+pub words_optimal : (goal : Goal) (b text : List ℕ) (n : ℕ) → IsBoard b → SolvesFor goal b text n → IsBoundedFor goal b n
+    → (solved : IsSolvedPuzzle goal (claim_words (record { board = b; asks = moves text })) n) × IsBoundedFor goal solved.board n
 unfolding words_solve
-words_optimal b text n board solves bounded = (words_solve b text n board solves, bounded)
+words_optimal goal b text n board solves bounded = (words_solve goal b text n board solves, bounded)

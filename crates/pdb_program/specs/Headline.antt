@@ -6,16 +6,18 @@ use Rattle.std.specs.Prelude.{◌≡◌, ◌≢◌, ◌⊎◌, ℕ, ◌<◌, ◌
 use Rattle.std.specs.Option.{option_map_or}
 use Rattle.puz_board.specs.BoardTexts.{Spells}
 use Rattle.puz_board.specs.Masks.{numbers_of}
-use Rattle.puz_board.specs.MovesTexts.{Solves}
+use Rattle.puz_goal.specs.Goals.{IsBoundedFor, SolvesFor, goal_words}
+use Rattle.puz_goal.specs.Turning.{board_for}
+use Rattle.puz_goal.specs.declared.goals.Goal.{Goal}
 use Rattle.move_strings.specs.BoundParts.{IsPart, IsPartBounded, ShownPart}
 use Rattle.claim_text.specs.Claims.{HasNo, part_words}
+use Rattle.claim_text.specs.Lines.{joined_goal}
 use Rattle.tab_file.specs.Tables.{Table}
 use Rattle.tab_rule.specs.ExactTables.{IsExactFile}
-use Rattle.set_sum.specs.Bounds.{IsBounded}
 use Rattle.byte_io.specs.Shelf.{Bytes}
 use Rattle.pdb_request.specs.Asked.{Asked, ProveArguments, TableArguments, bound, make_table, optimal, parts, prove, replay, solve, table}
 use Rattle.pdb_run.specs.Writing.{digests_of}
-use Rattle.pdb_verdict.specs.Bound.{IsBoundedText, IsProvedBound}
+use Rattle.pdb_verdict.specs.Bound.{IsBoundedText, IsProvedFor}
 use Rattle.pdb_verdict.specs.Lines.{exact_line}
 use Rattle.pdb_verdict.specs.Replay.{IsSolvedPuzzle}
 use Rattle.pdb_parts.specs.Laws.{AreTrueAnswers}
@@ -45,46 +47,55 @@ SaysExact line file side mask =
     (t : Table) × (t.pattern.side ≡ side) × (t.pattern.tiles ≡ numbers_of mask) × IsExactFile t file
     × (entries : ℕ) × (unreachable : ℕ) × (deepest : ℕ) × (line ++ codes "\n" ≡ exact_line side mask entries unreachable deepest)
 
--- the line is `bound n of` a board text, and no solution of its board has fewer than n moves; or it is `optimal n of` a puzzle text,
--- whose moves, n of them, solve its board, and no solution has fewer
-abbrev pub HoldsOfClaim : Bytes → Type 0
-HoldsOfClaim line = ((text : Bytes) × (n : ℕ) × (line ≡ codes "bound " ++ decimal n ++ codes " of" ++ text) × IsBoundedText text n)
-    ⊎ ((puzzle : Bytes) × (n : ℕ) × (is : IsSolvedPuzzle puzzle n) × (line ≡ codes "optimal " ++ decimal n ++ codes " of" ++ puzzle) × IsBounded is.board n)
+-- the line is `bound n of` a board text and the words of the goal, and no solution of its board for the goal has fewer than n moves; or
+-- it is `optimal n of` a puzzle text and these words, its moves, n of them, solve its board for the goal, and no solution has fewer
+abbrev pub HoldsOfClaim : Goal → Bytes → Type 0
+HoldsOfClaim goal line =
+    ((text : Bytes) × (n : ℕ) × (line ≡ codes "bound " ++ decimal n ++ codes " of" ++ text ++ goal_words goal) × IsBoundedText goal text n)
+    ⊎ ((puzzle : Bytes) × (n : ℕ) × (is : IsSolvedPuzzle goal puzzle n)
+    × (line ≡ codes "optimal " ++ decimal n ++ codes " of" ++ puzzle ++ goal_words goal) × IsBoundedFor goal is.board n)
 
--- what a line of a yes means below what stands above it, command by command, with the arguments of the command
+-- what a line of a yes means below what stands above it, command by command, with the arguments of the command; each line but `exact`
+-- ends with the words of the goal, of which there are none where the blank is first at home
 abbrev pub HoldsOfYes : Asked → (before later : Bytes → Option Bytes) → (input above line : Bytes) → Type 0
--- the line is `solution n`, and the moves of the puzzle text, n of them, solve its board
+-- the line is `solution n`, and the moves of the puzzle text, n of them, solve its board for the goal
 HoldsOfYes (replay a) before later input above line =
-    (puzzle : Bytes) × (n : ℕ) × (option_map_or before a.puzzle (Some input) ≡ Some puzzle) × (line ≡ codes "solution " ++ decimal n) × IsSolvedPuzzle puzzle n
+    (puzzle : Bytes) × (n : ℕ) × (option_map_or before a.puzzle (Some input) ≡ Some puzzle)
+    × (line ≡ codes "solution " ++ decimal n ++ goal_words a.goal) × IsSolvedPuzzle a.goal puzzle n
 -- the line is `exact` of a side and a mask, and the file is the exact one of their pattern
 HoldsOfYes (table a) before later input above line =
     (file : Bytes) × (side : ℕ) × (mask : ℕ) × (before a.file ≡ Some file) × (mask < 2 ^ 32) × SaysExact line file side mask
--- the line is `bound n`, and no solution of the board in the text has fewer than n moves
+-- the line is `bound n`, and no solution for the goal of the board in the text has fewer than n moves
 HoldsOfYes (bound a) before later input above line =
-    (text : Bytes) × (n : ℕ) × (before a.text ≡ Some text) × (line ≡ codes "bound " ++ decimal n) × IsBoundedText text n
--- the line is `optimal n`; the moves of the puzzle text, n of them, solve its board, and no solution has fewer
+    (text : Bytes) × (n : ℕ) × (before a.text ≡ Some text) × (line ≡ codes "bound " ++ decimal n ++ goal_words a.goal)
+    × IsBoundedText a.goal text n
+-- the line is `optimal n`; the moves of the puzzle text, n of them, solve its board for the goal, and no solution has fewer
 HoldsOfYes (optimal a) before later input above line =
-    (puzzle : Bytes) × (n : ℕ) × (is : IsSolvedPuzzle puzzle n) × (before a.text ≡ Some puzzle) × (line ≡ codes "optimal " ++ decimal n) × IsBounded is.board n
+    (puzzle : Bytes) × (n : ℕ) × (is : IsSolvedPuzzle a.goal puzzle n) × (before a.text ≡ Some puzzle)
+    × (line ≡ codes "optimal " ++ decimal n ++ goal_words a.goal) × IsBoundedFor a.goal is.board n
 -- the bytes that stand under OUT afterwards are the exact file of the pattern of this side and this mask, and the line is `exact`
 -- of these
 HoldsOfYes (make_table a) before later input above line = (file : Bytes) × (later a.out ≡ Some file) × SaysExact line file a.side a.mask
--- the line is `optimal n`, and the one above it `moves` with a moves text; its n moves solve the board in the text, and no solution
--- has fewer; and the bytes that stand under OUT afterwards are a log that proves this bound, over the sets and the tables
+-- the line is `optimal n`, and the one above it `moves` with a moves text; its n moves solve the board in the text for the goal, and no
+-- solution has fewer; and the bytes that stand under OUT afterwards are a log that proves this bound, of the board as it is turned for
+-- the goal, over the sets and the tables
 HoldsOfYes (solve a) before later input above line =
     (text : Bytes) × (b : List ℕ) × (moves : Bytes) × (n : ℕ) × (before a.board ≡ Some text) × Spells text b
-    × (line ≡ codes "optimal " ++ decimal n) × (higher : Bytes) × HasLine higher (codes "moves" ++ moves) [] above × Solves b moves n × IsBounded b n
+    × (line ≡ codes "optimal " ++ decimal n ++ goal_words a.goal)
+    × (higher : Bytes) × HasLine higher (codes "moves" ++ moves ++ goal_words a.goal) [] above × SolvesFor a.goal b moves n × IsBoundedFor a.goal b n
     × (set_text : Bytes) × (files : List Bytes) × (log : Bytes) × (before a.sets ≡ Some set_text) × (map before a.tables ≡ map Some files)
-    × (later a.out ≡ Some log) × IsProvedBound a.fold b set_text log files n
+    × (later a.out ≡ Some log) × IsProvedFor a.goal a.fold b set_text log files n
 -- the line is a true answer to a claim
-HoldsOfYes (prove a) before later input above line = HoldsOfClaim line
--- the line is `joined bound n of` the board in the text, `from k parts, by lines that were read`; above it stand the digests of the
--- answers; and if each line of these is true that says that one of k parts of the bound n of this board holds, no solution of the
--- board has fewer than n moves
+HoldsOfYes (prove a) before later input above line = HoldsOfClaim a.goal line
+-- the line is `joined bound n of` the board in the text, `from k parts, by lines that were read`, and the words of the goal; above it
+-- stand the digests of the answers; and if each line of these is true that says for the goal that one of k parts of the bound n of this
+-- board holds, no solution of the board for the goal has fewer than n moves
 HoldsOfYes (parts a) before later input above line =
     (text : Bytes) × (told : Bytes) × (b : List ℕ) × (option_map_or before a.board (Some input) ≡ Some text) × Spells text b × Spells told b
-    × (line ≡ codes "joined bound " ++ decimal a.bound ++ codes " of" ++ told ++ codes " from " ++ decimal a.count ++ codes " parts, by lines that were read")
+    × (line ≡ codes "joined bound " ++ decimal a.bound ++ codes " of" ++ told ++ codes " from " ++ decimal a.count ++ codes " parts, by lines that were read"
+    ++ joined_goal a.goal)
     × (files : List Bytes) × (map before a.answers ≡ map Some files) × (above ≡ digests_of files)
-    × (AreTrueAnswers (record { board = b; bound = a.bound; count = a.count }) files → IsBounded b a.bound)
+    × (AreTrueAnswers (record { board = b; bound = a.bound; count = a.count; goal = a.goal }) files → IsBoundedFor a.goal b a.bound)
 
 -- ---- what a line of a part means
 
@@ -92,16 +103,16 @@ HoldsOfYes (parts a) before later input above line =
 abbrev pub SaysPart : Bytes → Type 0
 SaysPart line = (rest : Bytes) × (line ≡ codes "part " ++ rest)
 
--- the line is `part i/k of bound n of` a board text, and for its board that part of the bound, which is at most 255, holds: the least
--- solution of fewer than n moves, if there is one, isn't of the part
-abbrev pub HoldsOfPart : Bytes → Type 0
-HoldsOfPart line =
-    (p : ShownPart) × (n : ℕ) × (text : Bytes) × (b : List ℕ) × IsPart p × (n ≤ 255) × Spells text b × IsPartBounded p n b
-    × (line ≡ codes "part " ++ part_words p ++ codes " of bound " ++ decimal n ++ codes " of" ++ text)
+-- the line is `part i/k of bound n of` a board text and the words of the goal, and for its board, as it is turned for the goal, that part
+-- of the bound, which is at most 255, holds: the least solution of fewer than n moves, if there is one, isn't of the part
+abbrev pub HoldsOfPart : Goal → Bytes → Type 0
+HoldsOfPart goal line =
+    (p : ShownPart) × (n : ℕ) × (text : Bytes) × (b : List ℕ) × IsPart p × (n ≤ 255) × Spells text b × IsPartBounded p n (board_for goal b)
+    × (line ≡ codes "part " ++ part_words p ++ codes " of bound " ++ decimal n ++ codes " of" ++ text ++ goal_words goal)
 
 -- each whole line that begins so is true
-abbrev pub ArePartLinesTrue : Bytes → Type 0
-ArePartLinesTrue lines = (above line below : Bytes) → HasLine above line below lines → SaysPart line → HoldsOfPart line
+abbrev pub ArePartLinesTrue : Goal → Bytes → Type 0
+ArePartLinesTrue goal lines = (above line below : Bytes) → HasLine above line below lines → SaysPart line → HoldsOfPart goal line
 
 -- ---- the program's answers
 
@@ -118,7 +129,7 @@ pub record Headline (asked : Asked) (before later : Bytes → Option Bytes) (inp
   -- each line that says a yes is true, whatever the status and whatever else happened
   pub lines_true : (above line below : Bytes) → HasLine above line below lines → SaysYes line → HoldsOfYes asked before later input above line
   -- and of `prove` each line that says that a part of a bound holds
-  pub parts_true : (a : ProveArguments) → asked ≡ prove a → ArePartLinesTrue lines
+  pub parts_true : (a : ProveArguments) → asked ≡ prove a → ArePartLinesTrue a.goal lines
   -- one that says a yes is the last line, and the status is 0; of `prove` more lines may follow, and one of these may be a no
   pub last : (above line below : Bytes) → HasLine above line below lines → SaysYes line → ((a : ProveArguments) → asked ≢ prove a)
       → (below ≡ []) × (status ≡ 0)

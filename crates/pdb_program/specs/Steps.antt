@@ -25,4 +25,4 @@ SaysHeadline words old new number =
 abbrev pub SaysParts : List Bytes → World → World → Type 0
 SaysParts words old new =
     (a : ProveArguments) (start lines : Bytes) → Parses words → asked_of words ≡ prove a
-    → old.written.bytes ≡ Some start → new.written.bytes ≡ Some (start ++ lines) → ArePartLinesTrue lines
+    → old.written.bytes ≡ Some start → new.written.bytes ≡ Some (start ++ lines) → ArePartLinesTrue a.goal lines

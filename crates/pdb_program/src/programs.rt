@@ -60,7 +60,7 @@ pub fn run<H: Threads + Wait + Sync, S: Shelf, R: Source, W: Sink, E: Write, G: 
     ensures part_lines { let words = map string_bytes words.items in
         (a : ProveArguments) (start lines : Bytes) → Parses words → asked_of words ≡ prove a
         → (W.output out.old).bytes ≡ Some start → (W.output out.new).bytes ≡ Some (start ++ lines)
-        → ArePartLinesTrue lines }
+        → ArePartLinesTrue a.goal lines }
 
     // With a yes or a no the writer got exactly the lines on the inputs that the words ask for, and with a yes what was made
     // and checked stands under its name. In any case the run says one thing that it has cause to say, or a proper front of it

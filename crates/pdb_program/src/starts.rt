@@ -57,7 +57,7 @@ pub fn start<'n, H: Threads + Wait + Sync, S: Shelf, R: Source, W: Sink, E: Writ
         let words = drop 1 (map string_bytes read.now.all.now) in
         (a : ProveArguments) (start lines : Bytes) → Parses words → asked_of words ≡ prove a
         → (W.output out.old).bytes ≡ Some start → (W.output out.new).bytes ≡ Some (start ++ lines)
-        → ArePartLinesTrue lines) }
+        → ArePartLinesTrue a.goal lines) }
 
     ensures runs { IfOk call.entry.arguments (λ read. RunsOn (drop 1 (map string_bytes read.now.all.now))
         (world (S.held shelf.old) (calls (S.calls shelf.old) (R.may_have_ended reader.old))

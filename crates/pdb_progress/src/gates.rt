@@ -2,7 +2,7 @@
 
 use crate::files::FileShare;
 use crate::makings::{Stage, TableProgress};
-use crate::paces::Pace;
+use crate::paces::{Effort, Pace};
 use crate::shares::Share;
 use crate::times::is_time;
 use std::io;
@@ -36,6 +36,10 @@ pub struct Progress<'a, 'n, R> {
     filled: AtomicU64,
     /// The number of the claim that is answered, from 1, or 0 where there is none.
     claim: AtomicU64,
+    /// How many boards were expanded for it.
+    claim_boards: AtomicU64,
+    /// The milliseconds from the start to the claim.
+    asked: AtomicU64,
     bound: AtomicU8,
     /// How many boards were expanded below this bound.
     boards: AtomicU64,
@@ -56,6 +60,8 @@ impl<'a, 'n, R: Clock + Eprint> Progress<'a, 'n, R> {
             begun: AtomicU64::new(0),
             filled: AtomicU64::new(0),
             claim: AtomicU64::new(0),
+            claim_boards: AtomicU64::new(0),
+            asked: AtomicU64::new(0),
             bound: AtomicU8::new(0),
             boards: AtomicU64::new(0),
             began: AtomicU64::new(0),
@@ -118,6 +124,27 @@ impl<'a, 'n, R: Clock + Eprint> Progress<'a, 'n, R> {
         })
     }
 
+    /// How the claim was searched for that is answered, where that took a second or more.
+    fn effort(&self) -> Option<Effort> {
+        let claim = self.claim.load(Ordering::SeqCst).checked_sub(1)?;
+        let boards = self.claim_boards.load(Ordering::SeqCst);
+        let asked = self.asked.load(Ordering::SeqCst);
+        let millis = self.millis()?.saturating_sub(asked);
+        if !is_time(0, millis) {
+            return None;
+        }
+        let bound = self.bound.load(Ordering::SeqCst);
+        Some(Effort(Pace::of(Some(claim), bound, boards, millis)?))
+    }
+
+    /// Tells how the claim was searched for that is answered, where that took a second or more. None is answered then.
+    pub fn ends_claim(&self) {
+        if let Some(effort) = self.effort() {
+            let _ = self.rt.eprintln(effort);
+        }
+        self.claim.store(0, Ordering::SeqCst);
+    }
+
     /// The pace to tell now, where it is time to tell one and no other worker does.
     fn pace_due(&self, boards: u64) -> Option<Pace> {
         let now = self.due()?;
@@ -146,6 +173,11 @@ impl<R: Clock + Eprint> Gate for Progress<'_, '_, R> {
     }
 
     fn asks(&self, claim: u64) {
+        self.ends_claim();
+        self.claim_boards.store(0, Ordering::SeqCst);
+        // Where the clock fails no time passes for this claim, so that nothing is told of it.
+        self.asked
+            .store(self.millis().unwrap_or(u64::MAX), Ordering::SeqCst);
         self.claim.store(claim.saturating_add(1), Ordering::SeqCst);
     }
 
@@ -158,6 +190,7 @@ impl<R: Clock + Eprint> Gate for Progress<'_, '_, R> {
     }
 
     fn expanded(&self, boards: u64) {
+        self.claim_boards.fetch_add(boards, Ordering::SeqCst);
         let boards_before = self.boards.fetch_add(boards, Ordering::SeqCst);
         if let Some(pace) = self.pace_due(boards_before.saturating_add(boards)) {
             let _ = self.rt.eprintln(pace);
@@ -196,6 +229,15 @@ impl<'a, 'n, R: Env + Clock + Eprint> Watch<'a, 'n, R> {
             None
         };
         Watch { progress }
+    }
+}
+
+impl<R: Clock + Eprint> Watch<'_, '_, R> {
+    /// Tells how the last claim was searched for, where that is asked for and took a second or more.
+    pub fn ends_claim(&self) {
+        if let Some(progress) = &self.progress {
+            progress.ends_claim();
+        }
     }
 }
 

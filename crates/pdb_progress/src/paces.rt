@@ -51,6 +51,26 @@ impl Pace {
     }
 }
 
+/// How fast a board was searched for in all. It is shown as the line that tells it.
+#[derive(Clone, Copy, Debug, PartialEq, Eq)]
+pub(crate) struct Effort(pub(crate) Pace);
+
+impl Display for Effort {
+    fn fmt<W: fmt::Write>(&self, f: &mut Formatter<W>) -> fmt::Result {
+        let Pace { claim, boards, millis, .. } = self.0;
+        let rate = self.0.boards_a_second();
+        let (seconds, tenths) = (millis / 1000, millis % 1000 / 100);
+        f.write_str("pdb_cli: ")?;
+        if let Some(claim) = claim {
+            write!(f, "claim {claim}: ")?;
+        }
+        write!(
+            f,
+            "{boards} boards in {seconds}.{tenths} seconds, {rate} a second"
+        )
+    }
+}
+
 impl Display for Pace {
     fn fmt<W: fmt::Write>(&self, f: &mut Formatter<W>) -> fmt::Result {
         let (bound, boards) = (self.bound, self.boards);

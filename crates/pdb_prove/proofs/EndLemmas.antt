@@ -26,12 +26,12 @@ use Rattle.pdb_prove.proofs.TellingLemmas.{whole_told, written_behind}
 -- what is told of this tells what comes of the claims, or memory is wanted, where it is taken
 pub fault_told : (arguments : ProveArguments) (files : ClaimsFiles) (fault : verdict.Fault) (told : Result CommandAnswer AllocError)
     → IsCauseForClaims arguments.fold files fault
-    → IfOk told (λ t. IsReplyOf t (reply_to_claims files (unready fault)) × (◌≢◌ {A = Result Verdict verdict.Fault} (Err fault) (Err Memory)))
+    → IfOk told (λ t. IsReplyOf t (reply_to_claims arguments.goal files (unready fault)) × (◌≢◌ {A = Result Verdict verdict.Fault} (Err fault) (Err Memory)))
     → OnErr told (◌≡◌ {A = Result Verdict verdict.Fault} (Err fault) (Err Memory))
-    → IsAnswerBy (IsClaimsReply arguments.fold (budget_of arguments.budget) (in_order files)) (TakesMemoryForClaims (in_order files)) told
+    → IsAnswerBy (IsClaimsReply arguments.goal arguments.fold (budget_of arguments.budget) (in_order files)) (TakesMemoryForClaims (in_order files)) told
 fault_told arguments files fault (Ok t) is says wants =
     let refused = cause_settled (IsUnready arguments.fold files) _ fault (λ same. says.1 (ap (λ x. Err x) same)) is in
-    (reply_to_claims files (unready fault), (files, refl, record { outcome = unready fault; is_outcome = refused; told = refl }), says.0)
+    (reply_to_claims arguments.goal files (unready fault), (files, refl, record { outcome = unready fault; is_outcome = refused; told = refl }), says.0)
 fault_told arguments files fault (Err e) is says wants =
     let same : fault ≡ Memory = cc in
     let takes = subst (IsCauseForClaims arguments.fold files) same is in
@@ -61,7 +61,7 @@ module _ {arguments : ProveArguments} {files : ClaimsFiles} {old read : World} (
 module _ {arguments : ProveArguments} {files : ClaimsFiles} {old mid : World} {claims : List ShownClaim} {v : ShownBundle}
     (begun : HasBegun arguments files old mid claims v) where
   -- the lines were cut
-  lines_cut : {new : World} → AreCut v (budget_of arguments.budget) mid new claims → ProveEnds arguments old new Fault
+  lines_cut : {new : World} → AreCut arguments.goal v (budget_of arguments.budget) mid new claims → ProveEnds arguments old new Fault
   lines_cut {new} cut =
       let are = begun.are in
       let all = written_behind begun.head cut.written in inr (record {
@@ -82,12 +82,12 @@ module _ {arguments : ProveArguments} {files : ClaimsFiles} {old mid : World} {c
       })
 
   -- all lines were written
-  all_answered : {new : World} {is_yes : Bool} (status : Status) → AreAllTold v (budget_of arguments.budget) mid new claims is_yes
+  all_answered : {new : World} {is_yes : Bool} (status : Status) → AreAllTold arguments.goal v (budget_of arguments.budget) mid new claims is_yes
       → status ≡ status_of_reply is_yes → ProveEnds arguments old new status
   all_answered {new} {is_yes} status all is =
       let are = begun.are in
       let whole = written_behind begun.head all.written in
-      let reply = reply_to_claims files (answered all.told) in inl (record {
+      let reply = reply_to_claims arguments.goal files (answered all.told) in inl (record {
         outcome = replied (in_order files) reply;
         cause = (
           are.read,
@@ -112,12 +112,12 @@ module _ {arguments : ProveArguments} {files : ClaimsFiles} {old mid : World} {c
 -- a run that has begun with claims none of which was told ends so
 module _ {arguments : ProveArguments} {files : ClaimsFiles} {old mid : World} {v : ShownBundle} (first now : Asked)
     (begun : HasBegun arguments files old mid (claims_of first) v) (same : IsSameAsked first now)
-    (budget : first.budget ≡ budget_of arguments.budget) where
+    (goal : first.goal ≡ arguments.goal) (budget : first.budget ≡ budget_of arguments.budget) where
   -- where a line isn't all written
-  pub ends_cut : {new : World} → AreCut v now.budget mid new (claims_of now) → ProveEnds arguments old new Fault
-  ends_cut cut = lines_cut begun (rw (same.budget, budget, same.claims) at cut)
+  pub ends_cut : {new : World} → AreCut now.goal v now.budget mid new (claims_of now) → ProveEnds arguments old new Fault
+  ends_cut cut = lines_cut begun (rw (same.goal, goal, same.budget, budget, same.claims) at cut)
 
   -- where all are told
   pub ends_answered : {new : World} (status : Status) → length now.claims.items ≤ now.told → IsToldTo v mid new now
       → status ≡ status_of_reply now.is_yes → ProveEnds arguments old new status
-  ends_answered status done told is = all_answered begun status (rw (same.budget, budget, same.claims) at (whole_told now done told)) is
+  ends_answered status done told is = all_answered begun status (rw (same.goal, goal, same.budget, budget, same.claims) at (whole_told now done told)) is

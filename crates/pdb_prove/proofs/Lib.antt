@@ -1,5 +1,5 @@
 pub mod LineLemmas
-pub mod PartLemmas
+pub mod TruthLemmas
 pub mod ReadyLemmas
 pub mod TellingLemmas
 pub mod SoonLemmas

@@ -9,6 +9,7 @@ use Rattle.puz_board.specs.Boards.{side_of}
 use Rattle.puz_board.specs.declared.moves.Move.{Move}
 use Rattle.puz_board.specs.declared.moves.Move.TheVariants.{Up, Down, Left, Right}
 use Rattle.move_strings.specs.Automata.{IsState, reversal_steps}
+use Rattle.puz_goal.specs.declared.goals.Goal.{Goal}
 use Rattle.set_sum.specs.Bundles.{ShownBundle}
 use Rattle.puz_walk.specs.declared.starts.Start.{Start}
 use Rattle.puz_search.specs.Guides.{LeavesOutReturn}
@@ -64,17 +65,17 @@ each_side side (claim ∷ claims) all zero d low = all.0
 each_side side (claim ∷ claims) all (suc k) d low = each_side side claims all.1 k d (omega (arith, low))
 
 -- with the start from one board more, the claims so far and this one have their starts
-pub posed_more : (v : ShownBundle) (claims : List Claim) (starts : List Start) (claim : Claim) (start : Start) (i : ℕ) → i < length claims
+pub posed_more : (goal : Goal) (v : ShownBundle) (claims : List Claim) (starts : List Start) (claim : Claim) (start : Start) (i : ℕ) → i < length claims
     → claim ≡ get_or claims i claim → length starts ≡ i
-    → ((k : ℕ) (c : Claim) (d : Start) → k < i → IsPosed v (get_or claims k c) (get_or starts k d)) → IsPosed v claim start
-    → (k : ℕ) (c : Claim) (d : Start) → k < i + 1 → IsPosed v (get_or claims k c) (get_or (starts ++ start ∷ []) k d)
-posed_more v claims starts claim start i low is size each here k c d next = elim (cases_lt k i) [
+    → ((k : ℕ) (c : Claim) (d : Start) → k < i → IsPosed goal v (get_or claims k c) (get_or starts k d)) → IsPosed goal v claim start
+    → (k : ℕ) (c : Claim) (d : Start) → k < i + 1 → IsPosed goal v (get_or claims k c) (get_or (starts ++ start ∷ []) k d)
+posed_more goal v claims starts claim start i low is size each here k c d next = elim (cases_lt k i) [
   | inl below ↦
       let there : k < length starts = omega (arith, below, size) in
-      subst (IsPosed v (get_or claims k c)) (sym (get_or_append_left starts (start ∷ []) d k there)) (each k c d below)
+      subst (IsPosed goal v (get_or claims k c)) (sym (get_or_append_left starts (start ∷ []) d k there)) (each k c d below)
   | inr above ↦
       let same : k ≡ i = omega (arith, above, next) in
-      rw (same, get_or_push starts start d i size) (subst (λ (x : Claim). IsPosed v x start) (get_or_read claims i claim low is c) here)
+      rw (same, get_or_push starts start d i size) (subst (λ (x : Claim). IsPosed goal v x start) (get_or_read claims i claim low is c) here)
 ]
 
 -- what holds of four moves holds of each

@@ -2,6 +2,8 @@
 use Rattle.std.specs.Prelude.{◌≡◌, ℕ, ◌-◌, ◌<◌, ◌≤◌, ◌⊎◌, min, Bool, true, false, List, [], take, length, Err, None, Some}
 use Rattle.std.specs.List.{list_all}
 use Rattle.puz_board.specs.MovesTexts.{Solves, replay_of}
+use Rattle.puz_goal.specs.Turning.{board_for, moves_for}
+use Rattle.puz_goal.specs.declared.goals.Goal.{Goal}
 use Rattle.set_sum.specs.Bounds.{IsBounded}
 use Rattle.set_sum.specs.Bundles.{ShownBundle}
 use Rattle.claim_text.specs.Claims as claims
@@ -20,6 +22,19 @@ use Rattle.pdb_verdict.specs.declared.verdicts.Fault.{Fault}
 use Rattle.pdb_verdict.specs.declared.verdicts.Fault.TheVariants.{K1, K2, Moves}
 use Rattle.pdb_prove.specs.declared.answers.Finding.{Finding}
 use Rattle.pdb_prove.specs.declared.answers.Finding.TheVariants.{Bound, Optimum, Part, Refused, Shorter, Shortest}
+
+-- ---- what is searched for
+
+-- what a claim asks, with its moves as they are for the goal
+abbrev pub asks_for : Goal → ShownAsks → ShownAsks
+asks_for goal claims.shortest = claims.shortest
+asks_for goal (claims.moves text) = claims.moves (moves_for goal text)
+asks_for goal (claims.bound r) = claims.bound r
+asks_for goal (claims.part r p) = claims.part r p
+
+-- the claim with its board and its moves as they are for the goal: all searches are for the first goal
+abbrev pub claim_for : Goal → ShownClaim → ShownClaim
+claim_for goal claim = record { board = board_for goal claim.board; asks = asks_for goal claim.asks }
 
 -- ---- what is found for a claim
 
@@ -97,21 +112,21 @@ pub record IsFoundFor (v : ShownBundle) (budget : ℕ) (claim : ShownClaim) (fou
 abbrev pub words_of : Fault → Bytes
 words_of refused = take (length (line_of_fault refused) - 1) (line_of_fault refused)
 
--- what is told of a board, of which a claim asks this, where this is found
-abbrev pub told_of : List ℕ → ShownAsks → Finding → Told
-told_of b (claims.bound r) Bound = line.bounded r b
-told_of b (claims.part r p) Part = line.part_bounded p r b
-told_of b (claims.moves text) (Optimum n) = line.optimal n b text
-told_of b asks (Shortest n letters) = line.optimal n b letters.items
-told_of b asks (Shorter letters) = line.shorter letters.items (record { board = b; asks = asks })
-told_of b asks (Refused refused) = line.refused (words_of refused) (record { board = b; asks = asks })
-told_of b asks _ = line.refused [] (record { board = b; asks = asks })
+-- what is told of a board, of which a claim asks this, where this is found of the board for the goal
+abbrev pub told_of : Goal → List ℕ → ShownAsks → Finding → Told
+told_of goal b (claims.bound r) Bound = line.bounded r b
+told_of goal b (claims.part r p) Part = line.part_bounded p r b
+told_of goal b (claims.moves text) (Optimum n) = line.optimal n b text
+told_of goal b asks (Shortest n letters) = line.optimal n b (moves_for goal letters.items)
+told_of goal b asks (Shorter letters) = line.shorter (moves_for goal letters.items) (record { board = b; asks = asks })
+told_of goal b asks (Refused refused) = line.refused (words_of refused) (record { board = b; asks = asks })
+told_of goal b asks _ = line.refused [] (record { board = b; asks = asks })
 
--- this is told of the claim, over the bundle and for the budget
-pub record IsToldOf (v : ShownBundle) (budget : ℕ) (claim : ShownClaim) (told : Told) : Type 0 where
+-- this is told of the claim, for the goal, over the bundle and for the budget
+pub record IsToldOf (goal : Goal) (v : ShownBundle) (budget : ℕ) (claim : ShownClaim) (told : Told) : Type 0 where
   pub found : Finding
-  pub is_found : IsFoundFor v budget claim found
-  pub is_told : told ≡ told_of claim.board claim.asks found
+  pub is_found : IsFoundFor v budget (claim_for goal claim) found
+  pub is_told : told ≡ told_of goal claim.board claim.asks found
 
 -- it is a yes
 abbrev pub is_yes : Told → Bool

@@ -2,6 +2,7 @@
 use Rattle.std.specs.Prelude.{◌≡◌, ◌≢◌, ℕ, zero, suc, ◌-◌, ◌^◌, ◌⊎◌, Bool, List, [], ◌∷◌, ◌++◌, Option, Some, None, Err, flat_map, map}
 use Rattle.std.specs.List.{AllByRecursion, AllZip}
 use Rattle.puz_board.specs.Boards.{side_of}
+use Rattle.puz_goal.specs.declared.goals.Goal.{Goal}
 use Rattle.set_sum.specs.Bundles.{ShownBundle}
 use Rattle.claim_text.specs.Claims.{ShownClaim}
 use Rattle.claim_text.specs.Texts.{AreClaims, IsFirstNoClaim}
@@ -79,35 +80,36 @@ pub data ClaimsOutcome : Type 0 where
   answered : List Told → ClaimsOutcome
 
 -- for claims that are ready, what is told of each, in their order
-pub record AreAnswered (fold : Bool) (budget : ℕ) (files : ClaimsFiles) (told : List Told) : Type 0 where
+pub record AreAnswered (goal : Goal) (fold : Bool) (budget : ℕ) (files : ClaimsFiles) (told : List Told) : Type 0 where
   pub claims : List ShownClaim
   pub bundle : ShownBundle
   pub ready : AreReady fold files claims bundle
-  pub each : AllZip (IsToldOf bundle budget) claims told
+  pub each : AllZip (IsToldOf goal bundle budget) claims told
 
 -- of these files
-abbrev pub IsOutcomeOf : Bool → ℕ → ClaimsFiles → ClaimsOutcome → Type 0
-IsOutcomeOf fold budget files (unready refused) = IsUnready fold files refused
-IsOutcomeOf fold budget files (answered told) = AreAnswered fold budget files told
+abbrev pub IsOutcomeOf : Goal → Bool → ℕ → ClaimsFiles → ClaimsOutcome → Type 0
+IsOutcomeOf goal fold budget files (unready refused) = IsUnready fold files refused
+IsOutcomeOf goal fold budget files (answered told) = AreAnswered goal fold budget files told
 
 -- the files whose digests come first: the tables, and behind them the claims text
 abbrev pub digested_files : ClaimsFiles → List Bytes
 digested_files files = files.tables ++ files.claims ∷ []
 
 -- the lines of what is told
-abbrev pub told_lines : List Told → Bytes
-told_lines told = flat_map told_line told
+abbrev pub told_lines : Goal → List Told → Bytes
+told_lines goal told = flat_map (told_line goal) told
 
 -- the digests, and then the lines; it is a yes where each claim is answered with one
-abbrev pub reply_to_claims : ClaimsFiles → ClaimsOutcome → Reply
-reply_to_claims files (unready refused) = reply_on (digested_files files) (Err refused)
-reply_to_claims files (answered told) = record { digested = digested_files files; made = None; lines = told_lines told; is_yes = are_yes told }
+abbrev pub reply_to_claims : Goal → ClaimsFiles → ClaimsOutcome → Reply
+reply_to_claims goal files (unready refused) = reply_on (digested_files files) (Err refused)
+reply_to_claims goal files (answered told) =
+    record { digested = digested_files files; made = None; lines = told_lines goal told; is_yes = are_yes told }
 
 -- a reply tells what comes of the claims
-pub record TellsClaims (fold : Bool) (budget : ℕ) (files : ClaimsFiles) (reply : Reply) : Type 0 where
+pub record TellsClaims (goal : Goal) (fold : Bool) (budget : ℕ) (files : ClaimsFiles) (reply : Reply) : Type 0 where
   pub outcome : ClaimsOutcome
-  pub is_outcome : IsOutcomeOf fold budget files outcome
-  pub told : reply ≡ reply_to_claims files outcome
+  pub is_outcome : IsOutcomeOf goal fold budget files outcome
+  pub told : reply ≡ reply_to_claims goal files outcome
 
 -- ---- the command
 
@@ -124,8 +126,8 @@ abbrev pub in_order : ClaimsFiles → List Bytes
 in_order files = files.claims ∷ files.sets ∷ files.tables
 
 -- what comes of the claims is told
-abbrev pub IsClaimsReply : Bool → ℕ → List Bytes → Reply → Type 0
-IsClaimsReply fold budget inputs reply = (files : ClaimsFiles) × (inputs ≡ in_order files) × TellsClaims fold budget files reply
+abbrev pub IsClaimsReply : Goal → Bool → ℕ → List Bytes → Reply → Type 0
+IsClaimsReply goal fold budget inputs reply = (files : ClaimsFiles) × (inputs ≡ in_order files) × TellsClaims goal fold budget files reply
 
 -- to list claims takes memory, and to check the tables and search
 abbrev pub TakesMemoryForClaims : List Bytes → Type 0
@@ -133,7 +135,7 @@ TakesMemoryForClaims inputs = (files : ClaimsFiles) × (inputs ≡ in_order file
 
 -- for any number of workers
 abbrev pub prove_plan : ProveArguments → Plan
-prove_plan arguments = plan (prove_inputs arguments) (IsClaimsReply arguments.fold (budget_of arguments.budget)) TakesMemoryForClaims
+prove_plan arguments = plan (prove_inputs arguments) (IsClaimsReply arguments.goal arguments.fold (budget_of arguments.budget)) TakesMemoryForClaims
 
 -- a write failed before all lines were written: the first claims were answered, and a proper front of the digests and the lines
 -- so far is what was written
@@ -145,8 +147,8 @@ pub record IsCutShort (arguments : ProveArguments) (old new : World) (status : S
   pub bundle : ShownBundle
   pub ready : AreReady arguments.fold files (first ++ others) bundle
   pub told : List Told
-  pub each : AllZip (IsToldOf bundle (budget_of arguments.budget)) first told
-  pub front : WritesFront old.written new.written (digests_of (digested_files files) ++ told_lines told)
+  pub each : AllZip (IsToldOf arguments.goal bundle (budget_of arguments.budget)) first told
+  pub front : WritesFront old.written new.written (digests_of (digested_files files) ++ told_lines arguments.goal told)
   pub same : new.files ≡ old.files
   pub calls : new.calls ≡ with_inputs old.calls (prove_inputs arguments)
   pub failure : new.failed ≡ old.failed

@@ -3,6 +3,8 @@ use Rattle.std.specs.Borrow.{Bor}
 use Rattle.std.specs.Prelude.{◌≡◌, ⊤, ℕ, ◌+◌, ◌*◌, ◌<◌, ◌≤◌, ◌++◌, Bool, true, false, List, [], length, map, slice_get, slice_index_or, take}
 use Rattle.std.specs.Prelude.{Option, Some, None, IfSome, IsNone, IsSome, Result, Ok, Err, MatchResult, Vec, vec_capacity}
 use Rattle.std.specs.List.{AllZip, sum_by}
+use Rattle.puz_goal.specs.Turning.{board_for}
+use Rattle.puz_goal.specs.declared.goals.Goal.{Goal}
 use Rattle.pat_place.specs.Patterns.{ShownPattern}
 use Rattle.pat_place.specs.Ranks.{falling_factorial}
 use Rattle.move_strings.specs.Automata.{ShownAutomaton}
@@ -31,13 +33,14 @@ use Rattle.pdb_run.specs.Writing.{digests_of}
 use Rattle.pdb_verdict.specs.Refusals.{IsCauseBy}
 use Rattle.pdb_verdict.specs.declared.verdicts.Fault.{Fault}
 use Rattle.pdb_verdict.specs.declared.verdicts.Fault.TheVariants as fault
-use Rattle.pdb_prove.specs.Answers.{IsFoundBy, IsFoundFor, IsShortestFor, IsToldOf, are_yes}
+use Rattle.pdb_prove.specs.Answers.{IsFoundBy, IsFoundFor, IsShortestFor, IsToldOf, are_yes, claim_for}
 use Rattle.pdb_prove.specs.Prove.{AreReady, ClaimsFiles, IsUnready, digested_files, in_order, prove_inputs, told_lines}
 use Rattle.pdb_prove.specs.declared.answers.Finding.{Finding}
 use Rattle.pdb_prove.specs.declared.answers.Finding.TheVariants.{Refused, Shorter}
 use Rattle.pdb_prove.specs.declared.answers.Question.{Question}
 use Rattle.pdb_prove.specs.declared.answers.Question.TheVariants.{Below, Shortest}
 use Rattle.pdb_prove.specs.declared.asked.Asked.{Asked}
+use Rattle.pdb_prove.specs.declared.asked.Posed.{Posed}
 use Rattle.pdb_prove.specs.declared.words.TableWords.{TableWords}
 
 -- ---- before anything is searched
@@ -88,11 +91,12 @@ is_spent _ = false
 abbrev pub claims_of : Asked → List ShownClaim
 claims_of asked = map claim_shown asked.claims.items
 
--- the claims and their budget are the same
+-- the claims, their goal and their budget are the same
 pub record IsSameAsked (old new : Asked) : Type 0 where
   pub claims : new.claims ≡ old.claims
   pub starts : new.starts ≡ old.starts
   pub reversals : new.reversals ≡ old.reversals
+  pub goal : new.goal ≡ old.goal
   pub budget : new.budget ≡ old.budget
 
 -- an automaton for boards of a side that leaves out each move which takes the one before it back
@@ -100,35 +104,44 @@ abbrev pub PrunesFor : ℕ → ShownAutomaton → Type 0
 PrunesFor side automaton = (automaton.side ≡ side) × LeavesOutReversals automaton.steps
 
 -- a search for the claim begins so
-pub record IsPosed (v : ShownBundle) (claim : Claim) (start : Start) : Type 0 where
+pub record IsPosed (goal : Goal) (v : ShownBundle) (claim : Claim) (start : Start) : Type 0 where
   pub is_start : IsStart v start
-  pub board : start.board ≡ claim.board
+  pub board : start.board ≡ board_for goal claim.board
+
+-- so does one for a claim that is posed
+abbrev pub IsPosedOver : ShownBundle → Posed → Type 0
+IsPosedOver v posed = IsPosed posed.goal v posed.claim.now posed.start.now
+
+-- what is searched for then
+abbrev pub claim_of : Posed → ShownClaim
+claim_of posed = claim_for posed.goal (claim_shown posed.claim.now)
 
 -- the search for each claim begins with its start, and the automaton of reversals is of the boards' side
 pub record IsAskedOver (v : ShownBundle) (asked : Asked) : Type 0 where
   pub size : length asked.starts.items ≡ length asked.claims.items
   pub each : (number : ℕ) (claim : Claim) (start : Start) → number < length asked.claims.items
-      → IsPosed v (slice_index_or asked.claims.items number claim) (slice_index_or asked.starts.items number start)
+      → IsPosed asked.goal v (slice_index_or asked.claims.items number claim) (slice_index_or asked.starts.items number start)
   pub prunes : PrunesFor v.side asked.reversals
 
 -- this is found for the claim with the number
-abbrev pub IsFoundAt : ShownBundle → ℕ → List Claim → ℕ → Finding → Type 0
-IsFoundAt v budget all number found = (other : Claim) → IsFoundFor v budget (claim_shown (slice_index_or all number other)) found
+abbrev pub IsFoundAt : Goal → ShownBundle → ℕ → List Claim → ℕ → Finding → Type 0
+IsFoundAt goal v budget all number found =
+    (other : Claim) → IsFoundFor v budget (claim_for goal (claim_shown (slice_index_or all number other))) found
 
 -- what was found soon for some of the next claims, each in its place
 abbrev pub AreFoundSoon : ShownBundle → Asked → List (Option Finding) → Type 0
 AreFoundSoon v asked soon = (place : ℕ) (other : Option Finding) → place < length soon
-    → IfSome (slice_index_or soon place other) (IsFoundAt v asked.budget asked.claims.items (asked.told + place))
+    → IfSome (slice_index_or soon place other) (IsFoundAt asked.goal v asked.budget asked.claims.items (asked.told + place))
 
 -- ---- the lines of claims, one after the other
 
-module _ (v : ShownBundle) (budget : ℕ) (old new : World) where
+module _ (goal : Goal) (v : ShownBundle) (budget : ℕ) (old new : World) where
   -- all claims were answered, and the lines written
   pub record AreAllTold (claims : List ShownClaim) (is_yes : Bool) : Type 0 where
     pub told : List Told
-    pub each : AllZip (IsToldOf v budget) claims told
+    pub each : AllZip (IsToldOf goal v budget) claims told
     pub yes : is_yes ≡ are_yes told
-    pub written : IsWritten (told_lines told) old new (Ok tt)
+    pub written : IsWritten (told_lines goal told) old new (Ok tt)
 
   -- the first of them were answered, and of their lines a proper front was written
   pub record AreCut (claims : List ShownClaim) : Type 0 where
@@ -136,19 +149,19 @@ module _ (v : ShownBundle) (budget : ℕ) (old new : World) where
     pub others : List ShownClaim
     pub order : claims ≡ first ++ others
     pub told : List Told
-    pub each : AllZip (IsToldOf v budget) first told
+    pub each : AllZip (IsToldOf goal v budget) first told
     pub fault : WriteFault
-    pub written : IsWritten (told_lines told) old new (Err fault)
+    pub written : IsWritten (told_lines goal told) old new (Err fault)
 
 -- the claims that are told, of those that are asked, were answered, and their lines written
 pub record IsToldTo (v : ShownBundle) (old new : World) (asked : Asked) : Type 0 where
   pub few : asked.told ≤ length asked.claims.items
-  pub all : AreAllTold v asked.budget old new (take asked.told (claims_of asked)) asked.is_yes
+  pub all : AreAllTold asked.goal v asked.budget old new (take asked.told (claims_of asked)) asked.is_yes
 
 -- the same, or a front was written
 abbrev pub IsTelling : ShownBundle → World → World → Asked → Result ⊤ WriteFault → Type 0
 IsTelling v old new asked result =
-    MatchResult result (λ _. IsToldTo v old new asked) (λ _. AreCut v asked.budget old new (claims_of asked))
+    MatchResult result (λ _. IsToldTo v old new asked) (λ _. AreCut asked.goal v asked.budget old new (claims_of asked))
 
 -- ---- the words of tables
 

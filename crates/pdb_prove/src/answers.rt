@@ -6,13 +6,14 @@ ghost use Rattle.claim_text.specs.Claims.{ShownClaim, moves as asks_moves};
 ghost use Rattle.claim_text.specs.Shown.{claim_shown};
 ghost use Rattle.puz_search.specs.Answers.{IsDeepened};
 ghost use Rattle.puz_search.specs.Guides.{ShownGuide};
-ghost use Rattle.pdb_prove.specs.Answers.{IsFoundBy, IsShortestFor, is_found_yes};
-ghost use Rattle.pdb_prove.specs.Steps.{IsPosed, IsQuestionOf, found_below, is_spent};
+ghost use Rattle.pdb_prove.specs.Answers.{IsFoundBy, IsShortestFor, claim_for, is_found_yes};
+ghost use Rattle.pdb_prove.specs.Steps.{IsPosedOver, IsQuestionOf, claim_of, found_below, is_spent};
 
 use crate::asked::Posed;
 use claim_text::{Asks, Claim};
 use pdb_verdict::Fault;
 use puz_board::{Board, is_solvable, replay};
+use puz_goal::{Goal, replay_for};
 use puz_search::{
     Deepened, Guide, Letters, PartBound, SearchAnswer, refute_by_thresholds,
     refute_by_thresholds_alone, shortest, shortest_alone,
@@ -69,9 +70,8 @@ pub(crate) const FEW_BOARDS: u64 = 1 << 16;
 
 /// What is found for a claim by one thread that expands few boards, where these are enough.
 pub(crate) fn answer_soon(guide: &Guide<'_>, posed: Posed<'_>) -> Option<Finding>
-    requires { IsPosed guide.now.bundle posed.claim.now posed.start.now }
-    ensures { let shown = claim_shown posed.entry.claim.now in
-        IfSome result (IsFoundBy guide.now posed.entry.budget shown) }
+    requires { IsPosedOver guide.now.bundle posed }
+    ensures { IfSome result (IsFoundBy guide.now posed.entry.budget (claim_of posed.entry)) }
 {
     if posed.budget <= FEW_BOARDS {
         return Some(answer_alone(guide, posed, posed.budget));
@@ -82,15 +82,17 @@ pub(crate) fn answer_soon(guide: &Guide<'_>, posed: Posed<'_>) -> Option<Finding
 
 /// What is found for a claim by one thread that expands at most so many boards.
 fn answer_alone(guide: &Guide<'_>, posed: Posed<'_>, budget: u64) -> Finding
-    requires { IsPosed guide.now.bundle posed.claim.now posed.start.now }
-    ensures { IsFoundBy guide.now budget (claim_shown posed.entry.claim.now) result }
+    requires { IsPosedOver guide.now.bundle posed }
+    ensures { IsFoundBy guide.now budget (claim_of posed.entry) result }
 {
-    let Posed { claim, start, .. } = posed;
-    match question_of(claim) {
+    let Posed {
+        goal, claim, start, ..
+    } = posed;
+    match question_of(goal, claim) {
         Ok(Question::Shortest) => match shortest_alone(guide, start, budget) {
             // So few boards prove no bound that is worth telling.
             Deepened::Spent(_) => Finding::Refused(Fault::K1(None)),
-            deepened => found_shortest(&claim.board, deepened),
+            deepened => found_shortest(&start.board, deepened),
         },
         Ok(Question::Below(bound, refuted)) => {
             let answer = refute_by_thresholds_alone(guide, start, &bound, budget);
@@ -107,13 +109,15 @@ pub(crate) fn answer_by<R: Threads + Sync, G: Gate + Sync>(
     budget: u64,
     workers: &Workers<'_, R, G>,
 ) -> Finding
-    requires { IsPosed guide.now.bundle posed.claim.now posed.start.now }
-    ensures { IsFoundBy guide.now budget (claim_shown posed.entry.claim.now) result }
+    requires { IsPosedOver guide.now.bundle posed }
+    ensures { IsFoundBy guide.now budget (claim_of posed.entry) result }
 {
-    let Posed { claim, start, .. } = posed;
-    match question_of(claim) {
+    let Posed {
+        goal, claim, start, ..
+    } = posed;
+    match question_of(goal, claim) {
         Ok(Question::Shortest) => {
-            found_shortest(&claim.board, shortest(guide, start, budget, workers))
+            found_shortest(&start.board, shortest(guide, start, budget, workers))
         }
         Ok(Question::Below(bound, refuted)) => {
             let answer = refute_by_thresholds(guide, start, &bound, budget, workers);
@@ -133,21 +137,25 @@ enum Question {
 }
 
 /// What is to be searched for, where the claim isn't refused without a search.
-fn question_of(claim: &Claim<'_>) -> Result<Question, Fault>
-    ensures ok { IfOk result (IsQuestionOf (claim_shown claim.now)) }
-    ensures err { IfErr result (λ refused. (guide : ShownGuide) (budget : ℕ)
-        → IsFoundBy guide budget (claim_shown claim.now) (Finding.Refused refused)) }
+fn question_of(goal: Goal, claim: &Claim<'_>) -> Result<Question, Fault>
+    ensures ok { IfOk result (IsQuestionOf (claim_for goal (claim_shown claim.now))) }
+    ensures err { let shown = claim_for goal (claim_shown claim.now) in
+        IfErr result (λ refused. (guide : ShownGuide) (budget : ℕ)
+        → IsFoundBy guide budget shown (Finding.Refused refused)) }
 {
+    // That it is a board is said of its side.
+    let _side = claim.board.side();
+    let board = goal.board_for(&claim.board);
     match claim.asks {
-        Asks::Moves(moves) => match replay(&claim.board, moves) {
+        Asks::Moves(moves) => match replay_for(goal, &claim.board, moves) {
             Ok(count) => Ok(shorter_than(count)),
             Err(refused) => Err(Fault::Moves(refused)),
         },
-        Asks::Shortest if is_solvable(&claim.board) => Ok(Question::Shortest),
-        Asks::Bound(bound) if is_solvable(&claim.board) => {
+        Asks::Shortest if is_solvable(&board) => Ok(Question::Shortest),
+        Asks::Bound(bound) if is_solvable(&board) => {
             Ok(Question::Below(PartBound::whole(bound), Finding::Bound))
         }
-        Asks::Part(bound, part) if is_solvable(&claim.board) => Ok(Question::Below(
+        Asks::Part(bound, part) if is_solvable(&board) => Ok(Question::Below(
             PartBound::new(bound, part),
             Finding::Part,
         )),

@@ -4,6 +4,7 @@ ghost use Rattle.std.specs.Prelude.{◌≡◌, ◌+◌, ◌<◌, ◌≤◌, Bool
 ghost use Rattle.std.specs.List.{All, AllByRecursion};
 ghost use Rattle.puz_board.specs.Boards.{side_of};
 ghost use Rattle.set_sum.specs.Bundles.{ShownBundle};
+ghost use Rattle.puz_goal.specs.Turning.{moves_for};
 ghost use Rattle.claim_text.specs.Lines.{HasFewLetters, told_line};
 ghost use Rattle.claim_text.specs.Shown.{asks_shown, claim_shown};
 ghost use Rattle.claim_text.specs.Texts.{AreClaims};
@@ -12,7 +13,7 @@ ghost use Rattle.pdb_run.specs.Runs.{World};
 ghost use Rattle.pdb_verdict.specs.FileBundles.{IsReadBundle};
 ghost use Rattle.pdb_prove.specs.Answers.{told_of, words_of};
 ghost use Rattle.pdb_prove.specs.Prove.{AreReady, ClaimsFiles, IsFirstOfAnotherSide};
-ghost use Rattle.pdb_prove.specs.Steps.{IsAskedOver, IsCauseForClaims, IsFoundAt, IsPosed, IsSameAsked, IsTelling, IsToldTo, PrunesFor, claims_of, of_claims};
+ghost use Rattle.pdb_prove.specs.Steps.{IsAskedOver, IsCauseForClaims, IsFoundAt, IsPosedOver, IsSameAsked, IsTelling, IsToldTo, PrunesFor, claims_of, of_claims};
 
 use crate::answers::Finding;
 use byte_io::streams::WriteFault;
@@ -21,16 +22,19 @@ use claim_text::{
     shorter_line,
 };
 use move_strings::Automaton;
-use pdb_run::{AnswerLines, Io};
+use pdb_run::{AnswerLines, Io, Tally};
 use pdb_verdict::{Fault, line_of};
+use puz_goal::Goal;
+use puz_search::Letters;
 use puz_walk::Start;
 use set_sum::Bundle;
 use std::alloc::{AllocError, Global};
 
-/// A claim that is asked: the start of a search from its board, the automaton of reversals of the board's side, and how many boards
-/// may be expanded.
+/// A claim that is asked: its goal, the start of a search from its board for the goal, the automaton of reversals of the board's
+/// side, and how many boards may be expanded.
 #[derive(Clone, Copy)]
 pub(crate) struct Posed<'a> {
+    pub(crate) goal: Goal,
     pub(crate) claim: &'a Claim<'a>,
     pub(crate) start: &'a Start,
     pub(crate) reversals: &'a Automaton,
@@ -41,7 +45,8 @@ pub(crate) struct Posed<'a> {
 #[derive(Drop)]
 pub(crate) struct Asked<'c> {
     pub(crate) claims: Vec<Claim<'c>>,
-    /// The start for each claim.
+    pub(crate) goal: Goal,
+    /// The start for each claim, from its board for the goal.
     starts: Vec<Start>,
     reversals: Automaton,
     /// How many boards may be expanded for each.
@@ -52,12 +57,15 @@ pub(crate) struct Asked<'c> {
     pub(crate) is_yes: bool,
     /// Why the last of them is refused, if there is one and it is.
     pub(crate) refused: Option<Fault>,
+    /// How they are answered.
+    pub(crate) tally: Tally,
 }
 
 impl<'c> Asked<'c> {
     /// These claims over the tables of a bundle, none of which is told yet.
     fn over(
         alloc: Global,
+        goal: Goal,
         claims: Vec<Claim<'c>>,
         budget: u64,
         bundle: &Bundle<'_>,
@@ -65,22 +73,32 @@ impl<'c> Asked<'c> {
         requires { All (λ claim. side_of claim.board ≡ bundle.now.side) claims.items }
         ensures over { IfOk result (IsAskedOver bundle.now) }
         ensures claims { IfOk result (λ asked. asked.claims.items ≡ claims.entry.items) }
+        ensures goal { IfOk result (λ asked. asked.goal ≡ goal) }
         ensures budget { IfOk result (λ asked. asked.budget ≡ budget) }
         ensures none { IfOk result (λ asked. (v : ShownBundle) (w : World) → IsToldTo v w w asked) }
     {
+        let tally = Tally {
+            claims: claims.len(),
+            optima: 0,
+            bounds: 0,
+            parts: 0,
+            refused: 0,
+        };
         let reversals = Automaton::of_reversals(alloc, bundle.side())?;
         let mut starts = Vec::new(alloc);
         for claim in claims.as_slice() {
-            starts.push(Start::of(bundle, &claim.board))?;
+            starts.push(Start::of(bundle, &goal.board_for(&claim.board)))?;
         }
         Ok(Asked {
             claims,
+            goal,
             starts,
             reversals,
             budget,
             told: 0,
             is_yes: true,
             refused: None,
+            tally,
         })
     }
 
@@ -89,12 +107,14 @@ impl<'c> Asked<'c> {
         requires number { number < length self.now.claims.items }
         requires starts { length self.now.starts.items ≡ length self.now.claims.items }
         ensures over { (v : ShownBundle) → IsAskedOver v self.now
-            → IsPosed v result.claim.now result.start.now × PrunesFor v.side result.reversals.now }
+            → IsPosedOver v result × PrunesFor v.side result.reversals.now }
         ensures claim { (other : Claim)
             → result.claim.now ≡ slice_index_or self.now.claims.items number other }
+        ensures goal { result.goal ≡ self.now.goal }
         ensures budget { result.budget ≡ self.now.budget }
     {
         Posed {
+            goal: self.goal,
             claim: &self.claims[number],
             start: &self.starts[number],
             reversals: &self.reversals,
@@ -110,36 +130,76 @@ impl<'c> Asked<'c> {
         ensures next { IfOk result (λ _. self.new.told ≡ self.old.told + 1) }
         ensures same_streams { I.streams io.new ≡ I.streams io.old }
         ensures told { let claims = self.old.claims.items in (v : ShownBundle) (begun : World)
-            → IsFoundAt v self.old.budget claims self.old.told found.now
+            → IsFoundAt self.old.goal v self.old.budget claims self.old.told found.now
             → IsToldTo v begun (I.world io.old) self.old
             → IsTelling v begun (I.world io.new) self.new result }
     {
         let claim = &self.claims[self.told];
-        io.write_text(line_on(claim, found).as_str())?;
+        io.write_text(line_on(self.goal, claim, found).as_str())?;
         self.told += 1;
         self.is_yes &= found.is_yes();
         self.refused = found.refusal();
+        self.tally = counted(self.tally, found);
         Ok(())
     }
 }
 
+/// With one claim more, for which this is found.
+fn counted(tally: Tally, found: &Finding) -> Tally {
+    match found {
+        Finding::Bound => Tally {
+            bounds: tally.bounds.saturating_add(1),
+            ..tally
+        },
+        Finding::Part => Tally {
+            parts: tally.parts.saturating_add(1),
+            ..tally
+        },
+        Finding::Optimum(_) | Finding::Shortest(..) => Tally {
+            optima: tally.optima.saturating_add(1),
+            ..tally
+        },
+        Finding::Shorter(_) | Finding::Refused(_) => Tally {
+            refused: tally.refused.saturating_add(1),
+            ..tally
+        },
+    }
+}
+
 /// The line that answers a claim for which this is found.
-fn line_on(claim: &Claim<'_>, found: &Finding) -> Line
+fn line_on(goal: Goal, claim: &Claim<'_>, found: &Finding) -> Line
     requires few { HasFewLetters (claim_shown claim.now) }
     ensures { let claim = claim.now in
-        result.bytes ≡ told_line (told_of claim.board (asks_shown claim.asks) found.now) }
+        let told = told_of goal claim.board (asks_shown claim.asks) found.now in
+        result.bytes ≡ told_line goal told }
 {
     match (&claim.asks, found) {
-        (Asks::Bound(bound), Finding::Bound) => bound_line(*bound, &claim.board),
-        (Asks::Part(bound, part), Finding::Part) => part_line(*part, *bound, &claim.board),
-        (Asks::Moves(moves), Finding::Optimum(count)) => optimal_line(*count, &claim.board, *moves),
-        (_, Finding::Shortest(count, letters)) => {
-            optimal_line(*count, &claim.board, letters.as_slice())
+        (Asks::Bound(bound), Finding::Bound) => bound_line(goal, *bound, &claim.board),
+        (Asks::Part(bound, part), Finding::Part) => part_line(goal, *part, *bound, &claim.board),
+        (Asks::Moves(moves), Finding::Optimum(count)) => {
+            optimal_line(goal, *count, &claim.board, *moves)
         }
-        (_, Finding::Shorter(letters)) => shorter_line(letters.as_slice(), claim),
-        (_, Finding::Refused(refused)) => refused_line(words_of(*refused).as_str(), claim),
-        _ => refused_line("", claim),
+        (_, Finding::Shortest(count, letters)) => {
+            optimal_line(goal, *count, &claim.board, turned(goal, letters.as_slice()).as_slice())
+        }
+        (_, Finding::Shorter(letters)) => {
+            shorter_line(goal, turned(goal, letters.as_slice()).as_slice(), claim)
+        }
+        (_, Finding::Refused(refused)) => refused_line(goal, words_of(*refused).as_str(), claim),
+        _ => refused_line(goal, "", claim),
     }
+}
+
+/// The letters of moves on a board, where these are on the board for the goal.
+fn turned(goal: Goal, letters: &[u8]) -> Letters
+    requires { length letters.now ≤ 255 }
+    ensures { result.items ≡ moves_for goal letters.now }
+{
+    let Ok(mut turned) = Letters::try_from(letters) else {
+        unreachable!();
+    };
+    goal.turn_moves(turned.as_mut_slice());
+    turned
 }
 
 /// The words of a refusal: its line without the line's end.
@@ -163,6 +223,7 @@ impl<'b, 'c> Ready<'b, 'c> {
     /// These claims and a bundle, where there is one, and of the side of their boards.
     pub(crate) fn of(
         alloc: Global,
+        goal: Goal,
         claims: Vec<Claim<'c>>,
         budget: u64,
         bundle: Result<Bundle<'b>, Fault>,
@@ -175,6 +236,7 @@ impl<'b, 'c> Ready<'b, 'c> {
             (λ ready. AreReady fold files (claims_of ready.asked) ready.bundle)
             (IsCauseForClaims fold files) }
         ensures claims { IfOk result (λ ready. ready.asked.claims.items ≡ claims.entry.items) }
+        ensures goal { IfOk result (λ ready. ready.asked.goal ≡ goal) }
         ensures budget { IfOk result (λ ready. ready.asked.budget ≡ budget) }
         ensures none { IfOk result (λ ready.
             (v : ShownBundle) (w : World) → IsToldTo v w w ready.asked) }
@@ -182,7 +244,7 @@ impl<'b, 'c> Ready<'b, 'c> {
         let bundle = bundle?;
         match first_of_another_side(claims.as_slice(), &bundle) {
             None => {
-                let asked = Asked::over(alloc, claims, budget, &bundle)?;
+                let asked = Asked::over(alloc, goal, claims, budget, &bundle)?;
                 Ok(Ready { asked, bundle })
             }
             Some(number) => Err(Fault::Q2(number)),

@@ -41,7 +41,7 @@ impl<'a> Task for Batch<'a> {
     ghost jobs = { λ batch. batch.count };
 
     ghost gives = { λ batch place found. let asked = batch.asked.now in
-        IfSome found (IsFoundAt (bundle_of batch.sets) asked.budget asked.claims.items
+        IfSome found (IsFoundAt asked.goal (bundle_of batch.sets) asked.budget asked.claims.items
         (asked.told + place)) };
 
     fn count(&self) -> usize {

@@ -2,13 +2,12 @@
 
 ghost use Rattle.std.specs.Prelude.{◌≡◌, ◌*◌, ◌^◌, ◌<◌, IfSome, IsTrue, None, false, length};
 ghost use Rattle.std.proofs.Props.{props};
-ghost use Rattle.claim_text.specs.Shown.{claim_shown};
 ghost use Rattle.move_strings.specs.Automata.{IsState};
 ghost use Rattle.puz_board.specs.declared.moves.Move.{Move};
 ghost use Rattle.puz_search.specs.Guides.{LeavesOutReturn, LeavesOutReversals};
 ghost use Rattle.puz_search.specs.StoredGuides.{bundle_of};
 ghost use Rattle.pdb_prove.specs.Answers.{IsFoundFor};
-ghost use Rattle.pdb_prove.specs.Steps.{IsPosed, IsRoomFor, IsWantedIf, PrunesFor};
+ghost use Rattle.pdb_prove.specs.Steps.{IsPosedOver, IsRoomFor, IsWantedIf, PrunesFor, claim_of};
 
 use crate::answers::{FEW_BOARDS, Finding, answer_by};
 use crate::asked::Posed;
@@ -92,11 +91,11 @@ impl<'a> Help<'a> {
         posed: Posed<'_>,
         workers: &Workers<'_, H, G>,
     ) -> Option<Finding>
-        requires posed { IsPosed (bundle_of self.old.sets) posed.claim.now posed.start.now }
+        requires posed { IsPosedOver (bundle_of self.old.sets) posed }
         requires prunes { PrunesFor (bundle_of self.old.sets).side posed.reversals.now }
         requires unprepared { self.old.words ≡ None }
         ensures sets { self.new.sets ≡ self.old.sets }
-        ensures found { let shown = claim_shown posed.entry.claim.now in
+        ensures found { let shown = claim_of posed.entry in
             IfSome result (IsFoundFor (bundle_of self.old.sets) posed.entry.budget shown) }
         ensures wanted { IsWantedIf result (bundle_of self.old.sets) self.new.words }
         ensures goes_on { self.old.before_words ≡ None
@@ -121,11 +120,11 @@ impl<'a> Help<'a> {
         posed: Posed<'_>,
         workers: &Workers<'_, H, G>,
     ) -> Option<Finding>
-        requires posed { IsPosed (bundle_of self.old.sets) posed.claim.now posed.start.now }
+        requires posed { IsPosedOver (bundle_of self.old.sets) posed }
         requires prunes { PrunesFor (bundle_of self.old.sets).side posed.reversals.now }
         requires unprepared { self.old.words ≡ None }
         ensures sets { self.new.sets ≡ self.old.sets }
-        ensures found { let shown = claim_shown posed.entry.claim.now in
+        ensures found { let shown = claim_of posed.entry in
             IfSome result (IsFoundFor (bundle_of self.old.sets) posed.entry.budget shown) }
         ensures wanted { IfSome result (λ found. self.new.words ≡ None) }
         ensures prepared { IfSome self.new.words (IsRoomFor (bundle_of self.old.sets)) }
@@ -166,9 +165,9 @@ impl<'a> Help<'a> {
         budget: u64,
         workers: &Workers<'_, H, G>,
     ) -> Finding
-        requires posed { IsPosed (bundle_of self.now.sets) posed.claim.now posed.start.now }
+        requires posed { IsPosedOver (bundle_of self.now.sets) posed }
         requires prunes { PrunesFor (bundle_of self.now.sets).side posed.reversals.now }
-        ensures { let shown = claim_shown posed.entry.claim.now in
+        ensures { let shown = claim_of posed.entry in
             IsFoundFor (bundle_of self.now.sets) budget shown result }
     {
         let automaton = match &self.strings {

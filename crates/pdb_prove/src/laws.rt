@@ -1,8 +1,8 @@
 //! Laws of the answers. Each function here says what holds of all of them, and does nothing.
 
-ghost use Rattle.pdb_prove.specs.Laws.{ToldPartsHold};
+ghost use Rattle.pdb_prove.specs.Laws.{ToldIsTrue};
 
-/// Where a part of a bound of a board is told, it holds.
-pub fn told_parts_hold()
-    ensures { ToldPartsHold }
+/// What is told as a yes to claims is true of their boards, for the goal.
+pub fn told_is_true()
+    ensures { ToldIsTrue }
 {}

@@ -10,7 +10,7 @@ ghost use Rattle.pdb_run.specs.Answers.{all_bytes, answer_text, digest_lines};
 ghost use Rattle.pdb_run.specs.Ended.{HasItsStatus};
 ghost use Rattle.pdb_run.specs.Inputs.{wanted_of};
 ghost use Rattle.pdb_run.specs.Io.{HasRead};
-ghost use Rattle.pdb_run.specs.Runs.{World};
+ghost use Rattle.pdb_run.specs.Runs.{World, status_of_reply};
 ghost use Rattle.pdb_run.specs.Writing.{digests_of};
 ghost use Rattle.pdb_prove.specs.Prove.{AreReady, ClaimsFiles, ProveEnds, a_claims_text, budget_of, digested_files, in_order, prove_inputs, prove_plan};
 ghost use Rattle.pdb_prove.specs.Steps.{AreCut, HasBegun, IsAskedOver, IsCauseForClaims, IsRoomFor, IsSameAsked, IsToldTo, PrunesFor, claims_of, files_of};
@@ -18,13 +18,14 @@ ghost use Rattle.pdb_prove.specs.Steps.{AreCut, HasBegun, IsAskedOver, IsCauseFo
 use crate::asked::{Asked, Ready, of_claims};
 use crate::batches::answer_all;
 use crate::help::Help;
+use crate::mistakes::beside_fault;
 use crate::words::TableWords;
 use byte_io::streams::WriteFault;
 use claim_text::{Claim, read_claims};
 use move_strings::Automaton;
 use pdb_request::Prove;
 use pdb_run::{
-    AnswerLines, Cause, Command, CommandAnswer, Digested, Ended, Input, Io, conclude, read_inputs,
+    AnswerLines, Beside, Cause, Command, CommandAnswer, Digested, Ended, Input, Io, conclude, read_inputs,
 };
 use pdb_verdict::{Fault, TableFiles, a_text, given_up, over_tables, told_or_memory, with_tables};
 use set_sum::Bundle;
@@ -79,6 +80,7 @@ fn with_bytes<'t>(
         workers: prove.workers,
         fold: prove.fold,
         budget: prove.budget,
+        goal: prove.goal,
     }
 }
 
@@ -106,7 +108,8 @@ pub fn run_prove<'n, H: Threads + Wait + Sync, G: Gate + Sync, I: Io>(
         Ok(claims) => answer_claims(&command, claims, files, workers, io),
         Err(fault) => {
             let digested = Digested::Files(files.tables.as_slice(), Some(files.claims));
-            tell_fault(&command, digested, of_claims(fault), io)
+            let beside = beside_fault(files.claims, fault);
+            tell_fault(&command, digested, of_claims(fault), io).telling(beside)
         }
     }
 }
@@ -141,7 +144,13 @@ fn answer_claims<'n, H: Threads + Wait + Sync, G: Gate + Sync, I: Io>(
     let kept = tables.as_slice();
     let files = TableFiles { given, kept, fold };
     let (digested, bundle) = over_tables(files, Some(text), sets.as_slice(), workers, identity);
-    let ready = Ready::of(workers.alloc, claims, budget_of(command.0), bundle);
+    let ready = Ready::of(
+        workers.alloc,
+        command.0.goal,
+        claims,
+        budget_of(command.0),
+        bundle,
+    );
     let Ready { mut asked, bundle } = match begin(command, digested, ready, io) {
         Ok(ready) => ready,
         Err(ended) => return ended,
@@ -151,16 +160,24 @@ fn answer_claims<'n, H: Threads + Wait + Sync, G: Gate + Sync, I: Io>(
         Err(_) => return Ended::by(Some(Cause::Unwritten)),
     };
     let Some(words) = words else {
-        return Ended::answered(asked.is_yes, asked.refused);
+        return told_end(&asked);
     };
     drop(bundle);
     let words = words.fill(tables, workers);
     let bundle = words.bundle();
     let mut help = Help::over_words(&bundle, strings);
     match answer_all(&mut asked, &mut help, workers, io) {
-        Ok(()) => Ended::answered(asked.is_yes, asked.refused),
+        Ok(()) => told_end(&asked),
         Err(_) => Ended::by(Some(Cause::Unwritten)),
     }
+}
+
+/// The end of a run in which all claims are told.
+fn told_end<'n>(asked: &Asked<'_>) -> Ended<'n, Fault>
+    ensures caused { HasItsStatus result }
+    ensures status { result.status ≡ status_of_reply asked.now.is_yes }
+{
+    Ended::answered(asked.is_yes, asked.refused).telling(Beside::Tally(asked.tally))
 }
 
 /// Answers claims over the tables of a bundle, until words are wanted. They may be wanted only where this is said. The memory for
@@ -183,7 +200,8 @@ fn answer_over_tables<H: Threads + Sync, G: Gate + Sync, I: Io>(
     ensures told { (begun : World) → IsToldTo bundle.now begun (I.world io.old) asked.old
         → MatchResult result
         (λ _. IsToldTo bundle.now begun (I.world io.new) asked.new)
-        (λ _. AreCut bundle.now asked.new.budget begun (I.world io.new) (claims_of asked.new)) }
+        (λ _. AreCut asked.new.goal bundle.now asked.new.budget begun (I.world io.new)
+        (claims_of asked.new)) }
 {
     let mut help = Help::over_tables(bundle, may_want_words);
     answer_all(asked, &mut help, workers, io)?;

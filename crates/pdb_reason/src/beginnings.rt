@@ -1,5 +1,7 @@
 //! What a file begins with.
 
+use puz_board::{Board, is_solvable};
+use puz_goal::Goal;
 use std::str;
 
 /// What a file begins with, where that tells another kind of file than the one that is wanted.
@@ -7,7 +9,9 @@ use std::str;
 pub enum Beginning {
     OfTable,
     OfLog,
-    /// Of a board whose last number is 0.
+    /// Of a board that has a solution with the blank last at home alone, as parity says.
+    OfBoardSolvedLast,
+    /// Of another board, whose last number is 0.
     OfBoardWithBlankLast,
     OfAny,
 }
@@ -19,6 +23,8 @@ impl Beginning {
             Beginning::OfTable
         } else if bytes.starts_with(b"PDBL") {
             Beginning::OfLog
+        } else if is_solved_last(bytes) {
+            Beginning::OfBoardSolvedLast
         } else if has_blank_last(bytes) {
             Beginning::OfBoardWithBlankLast
         } else {
@@ -31,11 +37,22 @@ impl Beginning {
         match self {
             Beginning::OfTable => ". It begins as a table does: is a word left out before it?",
             Beginning::OfLog => ". It begins as a log does: is a word left out before it?",
+            Beginning::OfBoardSolvedLast => "; with the blank last it has one: --goal last",
             Beginning::OfBoardWithBlankLast => {
-                ". The blank, 0, stands last: if it does on your goal board, docs/BOARDS.md turns it"
+                ". If the blank, 0, is last on your goal board, add --goal last"
             }
             Beginning::OfAny => "",
         }
+    }
+}
+
+/// Whether a board that comes first, alone or with a `;` behind it, has a solution with the blank last at home, and none with the blank
+/// first.
+fn is_solved_last(bytes: &[u8]) -> bool {
+    let text = bytes.split(|byte| *byte == b';').next().unwrap_or(b"");
+    match Board::read(text) {
+        Ok(board) => !is_solvable(&board) && is_solvable(&Goal::Last.board_for(&board)),
+        Err(_) => false,
     }
 }
 

@@ -2,9 +2,12 @@
 #![tactic(auto)]
 
 mod beginnings;
+mod besides;
+mod mistakes;
 mod outs;
 mod reasons;
 mod texts;
 
 pub use beginnings::Beginning;
+pub use besides::Summary;
 pub use reasons::Reason;

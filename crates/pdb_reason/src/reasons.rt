@@ -1,20 +1,25 @@
 //! Why a run ended without a yes.
 
 use crate::beginnings::Beginning;
+use crate::besides::write_spot;
 use crate::outs::{spared_text, unkept_text};
 use crate::texts::{ended_below, write_cause};
 use byte_io::shelf::Shelf;
 use pdb_progress::ShownName;
 use pdb_request::Request;
-use pdb_run::Cause;
+use pdb_run::{Beside, Cause, Spot};
 use pdb_verdict::Fault;
 use puz_board::MoveFault;
+use puz_goal::Goal;
 use set_sum::SetFault;
 use std::fmt;
 use std::fmt::{Display, Formatter};
 
 /// What stands before a reason that is told before the run ends.
 const AHEAD: &str = "this run can't end in a yes: ";
+
+/// What is said of moves that don't end with the blank last at home.
+const NOT_LAST: &str = "the moves don't end on the goal board, which has the blank last";
 
 /// What a sentence names.
 #[derive(Clone, Copy, Debug, PartialEq, Eq)]
@@ -48,7 +53,11 @@ pub struct Reason<'a> {
     name: Named<'a>,
     /// Why nothing is kept, where what is there tells it.
     unkept: Option<&'static str>,
+    /// Where the line that is refused goes wrong, where that is known.
+    spot: Option<Spot>,
     beginning: Beginning,
+    /// Where the blank was taken to be at home.
+    goal: Goal,
     /// Whether the run has still to end.
     is_ahead: bool,
 }
@@ -60,7 +69,9 @@ impl<'a> Reason<'a> {
             why,
             name: named_for(asked, why)?,
             unkept: None,
+            spot: None,
             beginning: Beginning::OfAny,
+            goal: asked.goal(),
             is_ahead: false,
         })
     }
@@ -84,17 +95,48 @@ impl<'a> Reason<'a> {
         Reason { unkept, ..self }
     }
 
+    /// The same, of a run of which this is told besides.
+    pub fn beside(self, beside: Beside) -> Reason<'a> {
+        let spot = match beside {
+            Beside::Spot(spot) => Some(spot),
+            Beside::Nothing | Beside::Tally(_) => None,
+        };
+        Reason { spot, ..self }
+    }
+
     /// The same, where that file begins so. What is said of that is left out where it is no surprise.
     pub fn beginning(self, beginning: Beginning) -> Reason<'a> {
         let beginning = match (self.subject(), beginning) {
             (Subject::Run, _)
             | (Subject::Table(_), Beginning::OfTable)
             | (Subject::Log, Beginning::OfLog) => Beginning::OfAny,
-            (Subject::Goal, Beginning::OfBoardWithBlankLast) => beginning,
-            (_, Beginning::OfBoardWithBlankLast) => Beginning::OfAny,
+            (Subject::Goal, Beginning::OfBoardSolvedLast | Beginning::OfBoardWithBlankLast) => {
+                self.of_board(beginning)
+            }
+            (_, Beginning::OfBoardSolvedLast | Beginning::OfBoardWithBlankLast) => {
+                Beginning::OfAny
+            }
             _ => beginning,
         };
         Reason { beginning, ..self }
+    }
+
+    /// What is said of a board that begins so: that it has a solution with the blank last, where it was said to have none; or that its
+    /// blank stands last. Nothing where the blank was taken to be last at home.
+    fn of_board(&self, beginning: Beginning) -> Beginning {
+        match (self.goal, self.why, beginning) {
+            (Goal::Last, _, _) => Beginning::OfAny,
+            (Goal::First, Cause::Refused(Fault::K2), _) => beginning,
+            (Goal::First, _, _) => Beginning::OfBoardWithBlankLast,
+        }
+    }
+
+    /// What is said in place of the sentence of its cause: where what is there is not replaced, and of moves that don't end with the blank last.
+    fn own_text(&self) -> Option<&'static str> {
+        match (self.goal, self.why) {
+            (Goal::Last, Cause::Refused(Fault::Moves(MoveFault::M4))) => Some(NOT_LAST),
+            _ => self.unkept,
+        }
     }
 
     /// What it speaks of.
@@ -128,9 +170,12 @@ impl Display for Reason<'_> {
             Named::LastClaim => f.write_str("the last claim: ")?,
             Named::Nothing => {}
         }
-        match self.unkept {
+        match self.own_text() {
             Some(text) => f.write_str(text)?,
             None => write_cause(f, &self.why)?,
+        }
+        if let Some(spot) = self.spot {
+            write_spot(f, spot)?;
         }
         f.write_str(self.beginning.text())
     }

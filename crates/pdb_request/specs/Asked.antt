@@ -1,6 +1,8 @@
 -- What words ask for, as bytes and numbers.
 use Rattle.std.specs.Borrow.{Bor}
 use Rattle.std.specs.Prelude.{◌≡◌, ⊤, ℕ, ◌%◌, ◌≤◌, Bool, IfSome, List, [], ◌∷◌, Option, map, option_map}
+use Rattle.puz_goal.specs.declared.goals.Goal.{Goal}
+use Rattle.puz_goal.specs.declared.goals.Goal.TheVariants.{First}
 use Rattle.pdb_request.specs.declared.requests.LogClaim.{LogClaim}
 use Rattle.pdb_request.specs.declared.requests.LogClaim.TheVariants as claim
 use Rattle.pdb_request.specs.declared.requests.LogCheck.{LogCheck}
@@ -19,6 +21,8 @@ use Rattle.pdb_request.specs.declared.requests.TableCheck.{TableCheck}
 pub record ReplayArguments : Type 0 where
   -- the name of the puzzle text, or none for standard input
   pub puzzle : Option (List ℕ)
+  -- where the blank is at home
+  pub goal : Goal
 
 -- `table`
 pub record TableArguments : Type 0 where
@@ -39,6 +43,8 @@ pub record LogArguments : Type 0 where
   pub workers : ℕ
   -- whether each table is folded once it is checked
   pub fold : Bool
+  -- where the blank is at home
+  pub goal : Goal
 
 -- `make-table`
 pub record MakeTableArguments : Type 0 where
@@ -66,6 +72,8 @@ pub record SolveArguments : Type 0 where
   pub workers : ℕ
   -- whether each table is folded once it is checked
   pub fold : Bool
+  -- where the blank is at home
+  pub goal : Goal
   -- how many boards may be expanded
   pub budget : ℕ
 
@@ -81,6 +89,8 @@ pub record ProveArguments : Type 0 where
   pub workers : ℕ
   -- whether each table is folded once it is checked
   pub fold : Bool
+  -- where the blank is at home
+  pub goal : Goal
   -- how many boards may be expanded for a claim, or none for as many as it takes
   pub budget : Option ℕ
 
@@ -93,6 +103,8 @@ pub record PartsArguments : Type 0 where
   pub count : ℕ
   -- the names of the files of answer lines
   pub answers : List (List ℕ)
+  -- where the blank is at home
+  pub goal : Goal
 
 -- what words ask for: a command with its arguments
 pub data Asked : Type 0 where
@@ -118,7 +130,7 @@ abbrev pub file_names : List (Bor (List ℕ)) → List (List ℕ)
 file_names names = map (λ name. name.now) names
 
 abbrev pub replay_shown : Replay → ReplayArguments
-replay_shown command = record { puzzle = option_map (λ s. s.now) command.puzzle }
+replay_shown command = record { puzzle = option_map (λ s. s.now) command.puzzle; goal = command.goal }
 
 abbrev pub table_check_shown : TableCheck → TableArguments
 table_check_shown check = record { file = check.file.now; workers = check.workers }
@@ -131,6 +143,7 @@ log_check_shown check = record {
   tables = file_names check.tables.items;
   workers = check.workers;
   fold = check.fold;
+  goal = check.goal;
 }
 
 abbrev pub make_table_shown : MakeTable → MakeTableArguments
@@ -151,6 +164,7 @@ solve_shown search = record {
   tables = file_names search.tables.items;
   workers = search.workers;
   fold = search.fold;
+  goal = search.goal;
   budget = search.budget;
 }
 
@@ -161,6 +175,7 @@ prove_shown command = record {
   tables = file_names command.tables.items;
   workers = command.workers;
   fold = command.fold;
+  goal = command.goal;
   budget = command.budget;
 }
 
@@ -170,6 +185,7 @@ parts_shown command = record {
   bound = command.bound;
   count = command.count;
   answers = file_names command.answers.items;
+  goal = command.goal;
 }
 
 -- what is claimed of a log makes the command
@@ -195,6 +211,16 @@ named_tables (optimal arguments) = arguments.tables
 named_tables (solve arguments) = arguments.tables
 named_tables (prove arguments) = arguments.tables
 named_tables other = []
+
+-- where the blank is at home; in the first cell where no board is read
+abbrev pub goal_asked : Asked → Goal
+goal_asked (replay arguments) = arguments.goal
+goal_asked (bound arguments) = arguments.goal
+goal_asked (optimal arguments) = arguments.goal
+goal_asked (solve arguments) = arguments.goal
+goal_asked (prove arguments) = arguments.goal
+goal_asked (parts arguments) = arguments.goal
+goal_asked other = First
 
 -- ---- which numbers a request can have
 

@@ -1,8 +1,9 @@
 //! What words ask for.
 
 ghost use Rattle.std.specs.Prelude.{◌≡◌};
-ghost use Rattle.pdb_request.specs.Asked.{file_names, named_tables, request_shown};
+ghost use Rattle.pdb_request.specs.Asked.{file_names, goal_asked, named_tables, request_shown};
 
+use puz_goal::Goal;
 use std::slice;
 
 /// What words ask for.
@@ -37,6 +38,20 @@ impl<'a> Request<'a> {
             Request::Replay(_) | Request::MakeTable(_) | Request::JoinParts(_) => &[],
         }
     }
+
+    /// Where the blank is at home; in the first cell where no board is read.
+    pub fn goal(&self) -> Goal
+        ensures { result ≡ goal_asked (request_shown self.now) }
+    {
+        match self {
+            Request::Replay(replay) => replay.goal,
+            Request::LogCheck(check) => check.goal,
+            Request::Solve(search) => search.goal,
+            Request::Prove(prove) => prove.goal,
+            Request::JoinParts(parts) => parts.goal,
+            Request::TableCheck(_) | Request::MakeTable(_) => Goal::First,
+        }
+    }
 }
 
 /// Whether the moves of a puzzle text solve its board.
@@ -44,6 +59,8 @@ impl<'a> Request<'a> {
 pub struct Replay<'a> {
     /// The file of the puzzle text, or none for standard input.
     pub puzzle: Option<&'a str>,
+    /// Where the blank is at home.
+    pub goal: Goal,
 }
 
 /// Whether a table file is exact.
@@ -79,6 +96,8 @@ pub struct LogCheck<T> {
     pub workers: u8,
     /// Whether each table is folded once it is checked.
     pub fold: bool,
+    /// Where the blank is at home.
+    pub goal: Goal,
 }
 
 /// The table of a pattern, kept once it is found exact. Not every side and mask are a pattern.
@@ -114,6 +133,8 @@ pub struct Solve<'a, T> {
     pub workers: u8,
     /// Whether each table is folded once it is checked.
     pub fold: bool,
+    /// Where the blank is at home.
+    pub goal: Goal,
     /// How many boards the search may expand: 1 to 1,000,000,000,000.
     pub budget: u64,
 }
@@ -132,6 +153,8 @@ pub struct Prove<C, T> {
     pub workers: u8,
     /// Whether each table is folded once it is checked.
     pub fold: bool,
+    /// Where the blank is at home.
+    pub goal: Goal,
     /// How many boards may be expanded for a claim, 1 to 1,000,000,000,000, or none for as many as it takes.
     pub budget: Option<u64>,
 }
@@ -148,4 +171,6 @@ pub struct JoinParts<C, T> {
     pub count: u16,
     /// The files of answer lines: one or more.
     pub answers: Vec<T>,
+    /// Where the blank is at home.
+    pub goal: Goal,
 }

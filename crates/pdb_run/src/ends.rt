@@ -4,6 +4,7 @@ ghost use Rattle.std.specs.Prelude.{◌≡◌};
 ghost use Rattle.pdb_run.specs.Ended.{HasItsStatus, status_by};
 ghost use Rattle.pdb_run.specs.Runs.{status_of_reply};
 
+use crate::mistakes::Mistake;
 use crate::statuses::Status;
 
 /// Why a run ended without a yes. `F` is the fault of what was checked or made.
@@ -31,12 +32,43 @@ pub enum Cause<'n, F> {
     Open,
 }
 
+/// Where a line that is no claim goes wrong.
+#[derive(Clone, Copy, Debug, PartialEq, Eq)]
+pub struct Spot {
+    /// The column, from 1.
+    pub column: usize,
+    /// What is wrong from there on.
+    pub what: Mistake,
+}
+
+/// How many claims were answered how.
+#[derive(Clone, Copy, Debug, PartialEq, Eq)]
+pub struct Tally {
+    /// How many claims there are.
+    pub claims: usize,
+    pub optima: usize,
+    pub bounds: usize,
+    pub parts: usize,
+    pub refused: usize,
+}
+
+/// What is told of a run to people alone.
+#[derive(Clone, Copy, Debug, PartialEq, Eq)]
+pub enum Beside {
+    Nothing,
+    /// The line that is refused goes wrong here.
+    Spot(Spot),
+    /// Claims were answered so.
+    Tally(Tally),
+}
+
 /// How a run ended.
 #[derive(Clone, Copy, Debug)]
 pub struct Ended<'n, F> {
     pub status: Status,
     /// Why it ended without a yes, if it did.
     pub why: Option<Cause<'n, F>>,
+    pub beside: Beside,
 }
 
 impl<'n, F: Copy> Ended<'n, F> {
@@ -60,7 +92,19 @@ impl<'n, F: Copy> Ended<'n, F> {
                 | Cause::MadeWrong,
             ) => Status::Fault,
         };
-        Ended { status, why }
+        Ended {
+            status,
+            why,
+            beside: Beside::Nothing,
+        }
+    }
+
+    /// The same, with this to tell to people.
+    pub fn telling(self, beside: Beside) -> Ended<'n, F>
+        ensures status { result.status ≡ self.entry.status }
+        ensures why { result.why ≡ self.entry.why }
+    {
+        Ended { beside, ..self }
     }
 
     /// The end of a run whose answer is a yes, or not, for this fault, where that has one cause.

@@ -7,6 +7,7 @@ mod digests;
 mod ends;
 mod inputs;
 mod io;
+mod mistakes;
 mod pages;
 mod runs;
 mod statuses;
@@ -17,8 +18,9 @@ pub use commands::{Command, Input};
 pub use digests::{
     DIGEST_LEN, DIGESTS_LEN, Digests, FILES_BESIDE, beside, digested_beside, with_digest,
 };
-pub use ends::{Cause, Ended};
+pub use ends::{Beside, Cause, Ended, Spot, Tally};
 pub use inputs::{Unread, load_all};
+pub use mistakes::Mistake;
 pub use io::{BorrowedIo, Io};
 pub use runs::{
     Keeping, NO_MEMORY, conclude, keep_and_conclude, read_inputs, read_inputs_and_try,

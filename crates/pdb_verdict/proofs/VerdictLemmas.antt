@@ -2,6 +2,8 @@
 use Rattle.std.proofs.Common.{◌≡◌, ◌∙◌, ◌↔◌, ◌⊎◌, ℕ, ◌<◌, true, false, inl, inr, slice_index, Result, Ok, Err, ap, append-nil, refl, sym}
 use Rattle.tab_file.specs.Tables.{Table}
 use Rattle.tab_rule.specs.ExactTables.{IsExactFile}
+use Rattle.puz_goal.specs.Turning.{board_for}
+use Rattle.puz_goal.proofs.SolvingLemmas.{bounded_for}
 use Rattle.byte_io.specs.Shelf.{Bytes}
 use Rattle.pdb_request.specs.declared.requests.LogClaim.TheVariants.{Bound, Optimum}
 use Rattle.pdb_run.specs.Commands.{Reply}
@@ -24,30 +26,30 @@ use Rattle.pdb_verdict.proofs.TableLemmas.{IsTableResult-one, refused_no_exact, 
 
 -- a verdict is the result exactly where it is true
 pub IsResult-true : (inputs : Given) (v : Verdict) → IsResult inputs (Ok v) ↔ IsTrueOf inputs v
-IsResult-true (puzzle_text puzzle) = told_yes Verdict.Solution (IsReplayResult puzzle)
+IsResult-true (puzzle_text goal puzzle) = told_yes Verdict.Solution (IsReplayResult goal puzzle)
 IsResult-true (table_file table) = told_yes exact_verdict (IsTableResult table)
 IsResult-true (log_claim Bound files) = told_yes Verdict.Bound (IsBoundResult files)
 IsResult-true (log_claim Optimum files) = told_yes Verdict.Optimal (IsOptimumResult files)
 
 -- a true verdict on a log holds of the solutions
 pub true_holds : (inputs : Given) (v : Verdict) → IsTrueOf inputs v → HoldsOfSolutions inputs v
-true_holds (puzzle_text puzzle) v h = tt
+true_holds (puzzle_text goal puzzle) v h = tt
 true_holds (table_file table) v h = tt
 true_holds (log_claim Bound files) v h =
-    let bounded = proved_bounds files.fold h.1.board files.sets files.log files.tables h.0 h.1.found_for in
-    (h.0, (h.1.board, h.1.spelt, bounded), h.2)
+    let bounded = proved_bounds files.fold (board_for files.goal h.1.board) files.sets files.log files.tables h.0 h.1.found_for in
+    (h.0, (h.1.board, h.1.spelt, bounded_for files.goal h.1.board h.0 h.1.spelt.board bounded), h.2)
 true_holds (log_claim Optimum files) v h = (h.0, record { solved = h.1.solved; least = proved_least files h.0 h.1 }, h.2)
 
 -- there is one result
 pub IsResult-one : (inputs : Given) → IsOne (IsResult inputs)
-IsResult-one (puzzle_text puzzle) = one_made (told_as Verdict.Solution) (IsReplayResult-one puzzle)
+IsResult-one (puzzle_text goal puzzle) = one_made (told_as Verdict.Solution) (IsReplayResult-one goal puzzle)
 IsResult-one (table_file table) = one_made (told_as exact_verdict) (IsTableResult-one table)
 IsResult-one (log_claim Bound files) = one_made (told_as Verdict.Bound) (IsBoundResult-one files)
 IsResult-one (log_claim Optimum files) = one_made (told_as Verdict.Optimal) (IsOptimumResult-one files)
 
 -- inputs, which are bytes, have a result
 pub result_some : (inputs : Given) → ((i : ℕ) → slice_index (bytes_of inputs) i < 256) → (answer : Result Verdict Fault) × IsResult inputs answer
-result_some (puzzle_text puzzle) small = some_made (told_as Verdict.Solution) (replay_some puzzle)
+result_some (puzzle_text goal puzzle) small = some_made (told_as Verdict.Solution) (replay_some goal puzzle)
 result_some (table_file file) small = some_made (told_as exact_verdict) (table_some file (rw append-nil at small))
 result_some (log_claim Bound files) small = some_made (told_as Verdict.Bound) (bound_some files)
 result_some (log_claim Optimum files) small = some_made (told_as Verdict.Optimal) (optimum_some files)

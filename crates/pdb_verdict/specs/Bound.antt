@@ -1,7 +1,9 @@
 -- Bounds that a log proves: what `bound BOARD SETS LOG TABLES..` and `optimal PUZZLE SETS LOG TABLES..` share.
 use Rattle.std.specs.Prelude.{◌≡◌, ℕ, Bool, List, Result, Ok, Err}
 use Rattle.puz_board.specs.BoardTexts.{Spells, board_of_text}
-use Rattle.set_sum.specs.Bounds.{IsBounded}
+use Rattle.puz_goal.specs.declared.goals.Goal.{Goal}
+use Rattle.puz_goal.specs.Goals.{IsBoundedFor}
+use Rattle.puz_goal.specs.Turning.{board_for}
 use Rattle.set_sum.specs.Bundles.{ShownBundle}
 use Rattle.log_check.specs.GoodLogs.{IsGoodFile}
 use Rattle.log_check.specs.LogFaults.{IsLogRefusalOf}
@@ -21,6 +23,10 @@ pub record IsProvedBound (fold : Bool) (board : List ℕ) (sets log : Bytes) (ta
   pub is_bundle : IsBundleOfFiles fold tables sets bundle
   pub good : IsGoodFile bundle board log bound
 
+-- they are such for the board as it is turned for a goal
+abbrev pub IsProvedFor : Goal → Bool → List ℕ → Bytes → Bytes → List Bytes → ℕ → Type 0
+IsProvedFor goal fold board sets log tables bound = IsProvedBound fold (board_for goal board) sets log tables bound
+
 -- they make a bundle, and over it the log file is refused for this
 pub record IsRefusedLog (fold : Bool) (board : List ℕ) (sets log : Bytes) (tables : List Bytes) (refused : LogRefusal) : Type 0 where
   pub bundle : ShownBundle
@@ -35,11 +41,11 @@ IsBoundFor fold board sets log tables (Err refused) = AreRefused fold tables set
 
 -- ---- `bound`
 
--- the text spells a board, for which this is found
+-- the text spells a board, for which this is found once it is turned for its goal
 pub record IsFoundForText (files : LogFiles) (found : Result ℕ Fault) : Type 0 where
   pub board : List ℕ
   pub spelt : Spells files.text board
-  pub found_for : IsBoundFor files.fold board files.sets files.log files.tables found
+  pub found_for : IsBoundFor files.fold (board_for files.goal board) files.sets files.log files.tables found
 
 -- the result: the bound that is proved for the board of the text, or why none is; the board text comes before all else
 abbrev pub IsBoundResult : LogFiles → Result ℕ Fault → Type 0
@@ -50,6 +56,6 @@ IsBoundResult files found = IsFoundForText files found
 abbrev pub TakesMemoryForBound : Bytes → List Bytes → Type 0
 TakesMemoryForBound text tables = (board : List ℕ) × Spells text board × TakesMemoryForTables tables
 
--- what a bound says: no solution of the board that the text spells has fewer moves
-abbrev pub IsBoundedText : Bytes → ℕ → Type 0
-IsBoundedText text bound = (board : List ℕ) × Spells text board × IsBounded board bound
+-- what a bound says: no solution for the goal of the board that the text spells has fewer moves
+abbrev pub IsBoundedText : Goal → Bytes → ℕ → Type 0
+IsBoundedText goal text bound = (board : List ℕ) × Spells text board × IsBoundedFor goal board bound

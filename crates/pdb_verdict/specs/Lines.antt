@@ -14,10 +14,13 @@ use Rattle.log_file.specs.declared.faults.FormFault.{FormFault}
 use Rattle.log_file.specs.declared.faults.FormFault.TheVariants.{L1, L2, L3}
 use Rattle.log_check.specs.declared.faults.LogRefusal.{LogRefusal}
 use Rattle.log_check.specs.declared.faults.LogRefusal.TheVariants.{Form, L4, L5, L6}
+use Rattle.puz_goal.specs.declared.goals.Goal.{Goal}
+use Rattle.puz_goal.specs.declared.goals.Goal.TheVariants.{First}
+use Rattle.puz_goal.specs.Goals.{goal_words}
 use Rattle.byte_io.specs.Shelf.{Bytes}
 use Rattle.pdb_run.specs.Writing.{memory_line, reply_text}
 use Rattle.pdb_run.specs.Commands.{Reply}
-use Rattle.pdb_verdict.specs.Inputs.{Given, log_claim, puzzle_text, table_file}
+use Rattle.pdb_verdict.specs.Inputs.{Given, goal_of, log_claim, puzzle_text, table_file}
 use Rattle.pdb_verdict.specs.declared.verdicts.Fault.{Fault}
 use Rattle.pdb_verdict.specs.declared.verdicts.Fault.TheVariants as fault
 use Rattle.pdb_verdict.specs.declared.verdicts.Verdict.{Verdict}
@@ -121,33 +124,45 @@ abbrev pub exact_line : (side mask entries unreachable deepest : ℕ) → Bytes
 exact_line side mask entries unreachable deepest = codes "exact side " ++ decimal side ++ codes " mask " ++ decimal mask ++ codes " entries " ++ decimal entries
     ++ codes " unreachable " ++ decimal unreachable ++ codes " deepest " ++ decimal deepest ++ codes "\n"
 
--- of a yes
-abbrev pub line_of_verdict : Verdict → Bytes
-line_of_verdict (verdict.Solution n) = counted (codes "solution ") n
-line_of_verdict (verdict.Exact side mask census) = exact_line side mask census.entries census.unreachable census.deepest
-line_of_verdict (verdict.Bound n) = counted (codes "bound ") n
-line_of_verdict (verdict.Optimal n) = counted (codes "optimal ") n
+-- a text, a number, what an answer for the goal ends with, and the line's end
+abbrev pub counted_for : Goal → Bytes → ℕ → Bytes
+counted_for goal text n = text ++ decimal n ++ goal_words goal ++ codes "\n"
+
+-- of a yes on a board for a goal, or on a table
+abbrev pub line_of_verdict : Goal → Verdict → Bytes
+line_of_verdict goal (verdict.Solution n) = counted_for goal (codes "solution ") n
+line_of_verdict goal (verdict.Exact side mask census) = exact_line side mask census.entries census.unreachable census.deepest
+line_of_verdict goal (verdict.Bound n) = counted_for goal (codes "bound ") n
+line_of_verdict goal (verdict.Optimal n) = counted_for goal (codes "optimal ") n
 
 -- of an answer
+abbrev pub line_for : Goal → Result Verdict Fault → Bytes
+line_for goal (Ok taken) = line_of_verdict goal taken
+line_for goal (Err refused) = line_of_fault refused
+
+-- of an answer for the first goal, or of any refusal
 abbrev pub line_of : Result Verdict Fault → Bytes
-line_of (Ok taken) = line_of_verdict taken
-line_of (Err refused) = line_of_fault refused
+line_of answer = line_for First answer
 
 -- ---- behind the digests of files
 
 -- the files whose digests are told
 abbrev pub digested_of : Given → List Bytes
-digested_of (puzzle_text puzzle) = []
+digested_of (puzzle_text goal puzzle) = []
 digested_of (table_file table) = table ∷ []
 digested_of (log_claim claim files) = files.tables ++ files.log ∷ []
 
 -- an answer behind the digests of these files, as a run tells it; no file is made
+abbrev pub reply_for : Goal → List Bytes → Result Verdict Fault → Reply
+reply_for goal files answer = record { digested = files; made = None; lines = line_for goal answer; is_yes = is_ok answer }
+
+-- the same for the first goal, or of any refusal
 abbrev pub reply_on : List Bytes → Result Verdict Fault → Reply
-reply_on files answer = record { digested = files; made = None; lines = line_of answer; is_yes = is_ok answer }
+reply_on files answer = reply_for First files answer
 
 -- an answer on inputs
 abbrev pub reply_to : Given → Result Verdict Fault → Reply
-reply_to inputs answer = reply_on (digested_of inputs) answer
+reply_to inputs answer = reply_for (goal_of inputs) (digested_of inputs) answer
 
 -- want of memory is said without digests
 abbrev pub stands_alone : Result Verdict Fault → Bool
@@ -156,4 +171,4 @@ stands_alone answer = false
 
 -- all lines on the inputs: the digests, and then the answer's line
 abbrev pub lines_of : Given → Result Verdict Fault → Bytes
-lines_of inputs answer = if stands_alone answer then line_of answer else reply_text (reply_to inputs answer)
+lines_of inputs answer = if stands_alone answer then line_for (goal_of inputs) answer else reply_text (reply_to inputs answer)

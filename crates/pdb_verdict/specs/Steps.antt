@@ -10,6 +10,7 @@ use Rattle.set_sum.specs.Bundles.{ShownBundle}
 use Rattle.set_sum.specs.declared.parts.Part.{Part}
 use Rattle.log_check.specs.declared.faults.LogFault.{LogFault}
 use Rattle.log_check.specs.declared.faults.LogFault.TheVariants as log_fault
+use Rattle.puz_goal.specs.declared.goals.Goal.{Goal}
 use Rattle.byte_io.specs.Shelf.{Bytes}
 use Rattle.pdb_request.specs.declared.requests.LogClaim.{LogClaim}
 use Rattle.pdb_request.specs.declared.requests.LogCheck.{LogCheck}
@@ -69,7 +70,7 @@ IsGivenUp fold given = (fold ≡ true) × (length given.items ≤ FILES_BESIDE)
 
 -- the files that were read for a check of a log
 abbrev pub files_read : {A : Type 0} → LogCheck (Vec ℕ A) → LogFiles
-files_read check = log_files check.fold check.text.items check.sets.items check.log.items (all_bytes check.tables.items)
+files_read check = log_files check.goal check.fold check.text.items check.sets.items check.log.items (all_bytes check.tables.items)
 
 -- what is claimed of them
 abbrev pub claim_read : {A : Type 0} → LogCheck (Vec ℕ A) → Given
@@ -105,8 +106,8 @@ answer_with (Some n) found = told_as verdict.Optimal (as_optimum n found)
 -- this is the answer to a claim that begins so, on any text that does, over any files of which this is read
 abbrev pub IsAnswerOver : Result ShownBundle Fault → BegunClaim → Bytes → Result Verdict Fault → Type 0
 IsAnswerOver read start log answer =
-    (claim : LogClaim) (fold : Bool) (text sets : Bytes) (tables : List Bytes) → begun claim text ≡ Ok start → IsReadBundle fold tables sets read →
-    IsAnswerTo (log_claim claim (log_files fold text sets log tables)) answer
+    (goal : Goal) (claim : LogClaim) (fold : Bool) (text sets : Bytes) (tables : List Bytes) → begun goal claim text ≡ Ok start →
+    IsReadBundle fold tables sets read → IsAnswerTo (log_claim claim (log_files goal fold text sets log tables)) answer
 
 -- ---- a table file alone
 

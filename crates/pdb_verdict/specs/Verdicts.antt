@@ -17,7 +17,7 @@ use Rattle.pdb_verdict.specs.declared.verdicts.Verdict.TheVariants as verdict
 
 -- the verdict is of the kind that is given on the inputs, and true of them
 abbrev pub IsTrueOf : Given → Verdict → Type 0
-IsTrueOf (puzzle_text puzzle) said = (n : ℕ) × IsSolvedPuzzle puzzle n × (said ≡ verdict.Solution n)
+IsTrueOf (puzzle_text goal puzzle) said = (n : ℕ) × IsSolvedPuzzle goal puzzle n × (said ≡ verdict.Solution n)
 IsTrueOf (table_file table) said = (exact : ℕ × ℕ × Census) × IsExactFor table exact.0 exact.1 exact.2 × (said ≡ exact_verdict exact)
 IsTrueOf (log_claim Bound files) said = (n : ℕ) × IsFoundForText files (Ok n) × (said ≡ verdict.Bound n)
 IsTrueOf (log_claim Optimum files) said = (n : ℕ) × IsFoundForPuzzle files n (Ok n) × (said ≡ verdict.Optimal n)
@@ -25,14 +25,14 @@ IsTrueOf (log_claim Optimum files) said = (n : ℕ) × IsFoundForPuzzle files n 
 -- what a verdict on a log says of the solutions of the board: that none has fewer moves than a bound, and that an optimum is their
 -- least number of moves
 abbrev pub HoldsOfSolutions : Given → Verdict → Type 0
-HoldsOfSolutions (puzzle_text puzzle) said = ⊤
+HoldsOfSolutions (puzzle_text goal puzzle) said = ⊤
 HoldsOfSolutions (table_file table) said = ⊤
-HoldsOfSolutions (log_claim Bound files) said = (n : ℕ) × IsBoundedText files.text n × (said ≡ verdict.Bound n)
-HoldsOfSolutions (log_claim Optimum files) said = (n : ℕ) × IsOptimum files.text n × (said ≡ verdict.Optimal n)
+HoldsOfSolutions (log_claim Bound files) said = (n : ℕ) × IsBoundedText files.goal files.text n × (said ≡ verdict.Bound n)
+HoldsOfSolutions (log_claim Optimum files) said = (n : ℕ) × IsOptimum files.goal files.text n × (said ≡ verdict.Optimal n)
 
 -- the answer is the result on the inputs
 abbrev pub IsResult : Given → Result Verdict Fault → Type 0
-IsResult (puzzle_text puzzle) answer = IsReplayTold puzzle answer
+IsResult (puzzle_text goal puzzle) answer = IsReplayTold goal puzzle answer
 IsResult (table_file table) answer = IsTableTold table answer
 IsResult (log_claim Bound files) answer = IsTold verdict.Bound (IsBoundResult files) answer
 IsResult (log_claim Optimum files) answer = IsTold verdict.Optimal (IsOptimumResult files) answer
@@ -48,10 +48,10 @@ pub record TellsResult (inputs : Given) (reply : Reply) : Type 0 where
 -- it takes memory to check the inputs: to replay takes none, nor does a table file that is refused by its header; nor, before
 -- the first table file whose header stands, does a claim on a log
 abbrev pub TakesMemory : Given → Type 0
-TakesMemory (puzzle_text puzzle) = ⊥
+TakesMemory (puzzle_text goal puzzle) = ⊥
 TakesMemory (table_file table) = TakesMemoryForTable table
 TakesMemory (log_claim Bound files) = TakesMemoryForBound files.text files.tables
-TakesMemory (log_claim Optimum files) = TakesMemoryForOptimum files.text files.tables
+TakesMemory (log_claim Optimum files) = TakesMemoryForOptimum files.goal files.text files.tables
 
 -- the answer is want of memory, where that is taken
 abbrev pub LacksMemory : Given → Result Verdict Fault → Type 0

@@ -52,7 +52,7 @@ fn verify_by<H: Threads + Wait, G: Gate + Sync>(
     ensures { IsAnswerTo (given inputs.now) result }
 {
     match *inputs {
-        Inputs::Replay { puzzle } => verify_puzzle(puzzle),
+        Inputs::Replay { puzzle, goal } => verify_puzzle(goal, puzzle),
         Inputs::Table { table } => verify_table(table, workers),
         Inputs::Bound {
             board,
@@ -60,8 +60,9 @@ fn verify_by<H: Threads + Wait, G: Gate + Sync>(
             log,
             tables,
             fold,
+            goal,
         } => {
-            let start = begin_claim(LogClaim::Bound, board)?;
+            let start = begin_claim(goal, LogClaim::Bound, board)?;
             let bundle = bundle_of(parts_of(tables, fold, workers), sets);
             answer_over(bundle, &start, log, workers)
         }
@@ -71,8 +72,9 @@ fn verify_by<H: Threads + Wait, G: Gate + Sync>(
             log,
             tables,
             fold,
+            goal,
         } => {
-            let start = begin_claim(LogClaim::Optimum, puzzle)?;
+            let start = begin_claim(goal, LogClaim::Optimum, puzzle)?;
             let bundle = bundle_of(parts_of(tables, fold, workers), sets);
             answer_over(bundle, &start, log, workers)
         }

@@ -11,7 +11,8 @@ use crate::replay::solved_board;
 use crate::verdicts::{Fault, Verdict};
 use log_check::check_log_by;
 use pdb_request::LogClaim;
-use puz_board::{Board, replay};
+use puz_board::Board;
+use puz_goal::{Goal, replay_for};
 use set_sum::Bundle;
 use std::sync::Wait;
 use std::thread::Threads;
@@ -20,7 +21,7 @@ use work_run::{Gate, Workers};
 /// What a claim on a log begins with.
 #[derive(Clone, Copy, Debug, PartialEq, Eq)]
 pub struct BegunClaim {
-    /// The board of its text.
+    /// The board of its text, turned for its goal.
     pub board: Board,
     /// Of a puzzle text how many moves solve the board, and of a board text none.
     pub moves: Option<u16>,
@@ -28,16 +29,16 @@ pub struct BegunClaim {
 
 /// What a claim on a log begins with, by its text: a board text for a bound, a puzzle text for an optimum. Or why the text is
 /// refused, which is told before anything else is looked at. It takes no memory and waits for nobody.
-pub fn begin_claim(claim: LogClaim, text: &[u8]) -> Result<BegunClaim, Fault>
-    ensures { result ≡ begun claim text.now }
+pub fn begin_claim(goal: Goal, claim: LogClaim, text: &[u8]) -> Result<BegunClaim, Fault>
+    ensures { result ≡ begun goal claim text.now }
 {
     match claim {
         LogClaim::Bound => {
-            let board = Board::read(text)?;
+            let board = goal.board_for(&Board::read(text)?);
             Ok(BegunClaim { board, moves: None })
         }
         LogClaim::Optimum => {
-            let (board, moves) = solved_board(text)?;
+            let (board, moves) = solved_board(goal, text)?;
             let moves = Some(moves);
             Ok(BegunClaim { board, moves })
         }
@@ -75,19 +76,28 @@ fn bound_for<H: Threads + Wait, G: Gate + Sync>(
     Ok(bound)
 }
 
+/// Moves that are said to solve a board for a goal: the board and a moves text, as a puzzle text has them.
+#[derive(Clone, Copy)]
+pub struct SaidMoves<'a> {
+    pub goal: Goal,
+    pub board: &'a Board,
+    pub moves: &'a [u8],
+}
+
 /// The optimum that is proved for a board and moves, over the bundle that files make: as of the puzzle text of a text that spells the
 /// board, and of the moves.
 pub fn optimum_over<H: Threads + Wait, G: Gate + Sync>(
     bundle: &Bundle<'_>,
-    board: &Board,
-    moves: &[u8],
+    said: SaidMoves<'_>,
     log: &[u8],
     workers: &Workers<'_, H, G>,
 ) -> Result<u8, Fault>
-    ensures { IsOptimumOver bundle.now board.now moves.now log.now result }
+    ensures { IsOptimumOver said.entry.goal bundle.now said.entry.board.now said.entry.moves.now
+        log.now result }
 {
-    let solution = replay(board, moves)?;
-    optimum_of(solution, check_log_by(bundle, log, board, workers)?)
+    let solution = replay_for(said.goal, said.board, said.moves)?;
+    let board = said.goal.board_for(said.board);
+    optimum_of(solution, check_log_by(bundle, log, &board, workers)?)
 }
 
 /// The bound of a board that so many moves solve, as an optimum.

@@ -1,11 +1,15 @@
 //! What is to be checked.
 
+use puz_goal::Goal;
+
 /// What is to be checked.
 #[derive(Clone, Copy)]
 pub enum Inputs<'a> {
     /// Whether the moves of a puzzle text solve its board.
     Replay {
         puzzle: &'a [u8],
+        /// Where the blank is at home.
+        goal: Goal,
     },
     /// Whether the table of a table file is exact.
     Table {
@@ -19,6 +23,8 @@ pub enum Inputs<'a> {
         tables: &'a [Vec<u8>],
         /// Whether each table is folded once it is checked.
         fold: bool,
+        /// Where the blank is at home.
+        goal: Goal,
     },
     /// Whether the moves of a puzzle text solve its board, and a log proves that no solution has fewer moves.
     Optimal {
@@ -28,5 +34,7 @@ pub enum Inputs<'a> {
         tables: &'a [Vec<u8>],
         /// Whether each table is folded once it is checked.
         fold: bool,
+        /// Where the blank is at home.
+        goal: Goal,
     },
 }

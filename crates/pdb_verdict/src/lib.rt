@@ -17,7 +17,7 @@ mod tables;
 mod verdicts;
 
 pub use checks::verify;
-pub use claims::{BegunClaim, answer_over, begin_claim, optimum_over};
+pub use claims::{BegunClaim, SaidMoves, answer_over, begin_claim, optimum_over};
 pub use inputs::Inputs;
 pub use known::known_table;
 pub use laws::{
@@ -27,7 +27,9 @@ pub use laws::{
 pub use limits::{a_log, a_table, a_text, with_tables};
 pub use lines::line_of;
 pub use replay::verify_puzzle;
-pub use reports::{digests, line, report, settled, told, told_or_memory};
+pub use reports::{
+    digests, line, report, settled, told, told_for, told_or_memory, told_or_memory_for,
+};
 pub use table::verify_table;
 pub use tables::{TableFiles, given_up, over_tables};
 pub use verdicts::{Fault, Verdict};

@@ -1,7 +1,7 @@
 //! The lines that a verdict or a refusal is told in, as values.
 
-ghost use Rattle.std.specs.Prelude.{◌≡◌, ◌≤◌, ℕ, length};
-ghost use Rattle.pdb_verdict.specs.Lines.{counted, counted_twice, exact_line, line_of, line_of_board_fault, line_of_fault, line_of_form_fault, line_of_head_fault, line_of_numbered_head_fault, line_of_log_refusal, line_of_move_fault, line_of_set_fault, line_of_table_refusal, line_of_numbered_table_refusal};
+ghost use Rattle.std.specs.Prelude.{◌≡◌, ◌≤◌, ◌++◌, ℕ, codes, length};
+ghost use Rattle.pdb_verdict.specs.Lines.{counted, counted_for, counted_twice, exact_line, line_for, line_of, line_of_board_fault, line_of_fault, line_of_form_fault, line_of_head_fault, line_of_numbered_head_fault, line_of_log_refusal, line_of_move_fault, line_of_set_fault, line_of_table_refusal, line_of_numbered_table_refusal};
 
 use crate::verdicts::{Fault, Verdict};
 use itoa::Buffer;
@@ -9,6 +9,7 @@ use log_check::LogRefusal;
 use log_file::FormFault;
 use pdb_run::{AnswerLines, NO_MEMORY, lines};
 use puz_board::{BoardFault, MoveFault, Side};
+use puz_goal::Goal;
 use set_sum::SetFault;
 use tab_file::HeadFault;
 use tab_rule::{Census, TableRefusal};
@@ -16,17 +17,41 @@ use tab_rule::{Census, TableRefusal};
 /// The most bytes of a text before a number: two such texts with their numbers fit into lines.
 const MOST_TEXT: usize = 40;
 
-/// The line of a verdict, a refusal or want of memory.
+/// The line of a verdict for the first goal, of a refusal or of want of memory.
 pub fn line_of(answer: &Result<Verdict, Fault>) -> AnswerLines
     ensures { result.bytes ≡ line_of answer.now }
 {
+    line_for(Goal::First, answer)
+}
+
+/// The line of a verdict for a goal, of a refusal or of want of memory.
+pub(crate) fn line_for(goal: Goal, answer: &Result<Verdict, Fault>) -> AnswerLines
+    ensures { result.bytes ≡ line_for goal answer.now }
+{
     match answer {
-        Ok(Verdict::Solution(moves)) => counted("solution ", *moves as u64),
+        Ok(Verdict::Solution(moves)) => counted_for(goal, "solution ", *moves as u64),
         Ok(Verdict::Exact(side, mask, census)) => exact_line(*side, *mask, *census),
-        Ok(Verdict::Bound(bound)) => counted("bound ", *bound as u64),
-        Ok(Verdict::Optimal(moves)) => counted("optimal ", *moves as u64),
+        Ok(Verdict::Bound(bound)) => counted_for(goal, "bound ", *bound as u64),
+        Ok(Verdict::Optimal(moves)) => counted_for(goal, "optimal ", *moves as u64),
         Err(fault) => fault_line(fault),
     }
+}
+
+/// A text, a number, what an answer for the goal ends with, and the line's end.
+fn counted_for(goal: Goal, text: &str, number: u64) -> AnswerLines
+    requires { length text.now ≤ MOST_TEXT }
+    ensures { result.bytes ≡ counted_for goal text.now number }
+{
+    let mut digits = Buffer::new();
+    with_end(text, digits.format(number), goal.words())
+}
+
+/// A text, digits, words behind them, and the line's end.
+fn with_end<'t>(text: &'t str, digits: &'t str, words: &'t str) -> AnswerLines
+    requires { (length text.now ≤ MOST_TEXT) × (length digits.now ≤ 20) × (length words.now ≤ 20) }
+    ensures { result.bytes ≡ text.now ++ digits.now ++ words.now ++ codes "\n" }
+{
+    lines(&[text, digits, words, "\n"])
 }
 
 /// The line of an exact table.

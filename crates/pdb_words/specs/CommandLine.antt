@@ -4,9 +4,10 @@ use Rattle.std.specs.Str.{bytes_eq}
 use Rattle.clap.specs.Walk.{Row, Text}
 use Rattle.clap.specs.Simple.{App, new_app, on_top, subcommand_of, with_subcommand}
 use Rattle.clap.specs.Faults.{fault_of}
-use Rattle.clap.specs.Kinds.{Kinds}
+use Rattle.clap.specs.Kinds.{Kinds, or_else}
 use Rattle.pdb_request.specs.Asked.{Asked}
 use Rattle.pdb_request.specs.declared.requests.LogClaim.TheVariants.{Bound, Optimum}
+use Rattle.pdb_words.specs.Goal.{goal_faults}
 use Rattle.pdb_words.specs.LogChecks.{check_command, check_in}
 use Rattle.pdb_words.specs.MakeTable.{make_table_command, make_table_in, mask_faults}
 use Rattle.pdb_words.specs.Parts.{count_faults, parts_command, parts_in}
@@ -60,11 +61,15 @@ asked_of words = asked_in (subcommand_of command_line words)
 abbrev pub parse_faults : List Text → Kinds
 parse_faults words = fault_of command_line words
 
--- what is wrong with a value among those found of the command of this name: `make-table` may have a mask that is none, and `parts`
--- a count of parts that isn't odd
-abbrev pub value_faults_by : Text → List Row → Kinds
-value_faults_by name rows = if bytes_eq name (codes "make-table") then mask_faults rows
+-- what is wrong with a value that only the command of this name has: `make-table` may have a mask that is none, and `parts` a count
+-- of parts that isn't odd
+abbrev pub own_faults : Text → List Row → Kinds
+own_faults name rows = if bytes_eq name (codes "make-table") then mask_faults rows
     else if bytes_eq name (codes "parts") then count_faults rows else []
+
+-- what is wrong with a value among those found of it: first the word for a goal, which may be none
+abbrev pub value_faults_by : Text → List Row → Kinds
+value_faults_by name rows = or_else (goal_faults rows) (own_faults name rows)
 
 -- the same, or nothing without a command
 abbrev pub value_faults_in : Option (Text × List Row) → Kinds

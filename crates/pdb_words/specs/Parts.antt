@@ -1,4 +1,4 @@
--- The words of `parts BOARD N K ANSWERS..`.
+-- The words of `parts [--goal first|last] BOARD N K ANSWERS..`.
 use Rattle.std.specs.Prelude.{◌%◌, ◌==◌, ℕ, List, [], ◌∷◌, codes, if◌then◌else◌, pos}
 use Rattle.clap.specs.Walk.{Row, Rule}
 use Rattle.clap.specs.Simple.{App}
@@ -7,6 +7,7 @@ use Rattle.clap.specs.declared.builder.value_parser.ValueParser.TheVariants as p
 use Rattle.clap.specs.declared.error.kind.ErrorKind.TheVariants.{ValueValidation}
 use Rattle.pdb_request.specs.Asked.{Asked, most_parts, parts}
 use Rattle.pdb_words.specs.Files.{file_in, files_in}
+use Rattle.pdb_words.specs.Goal.{goal_flag, goal_in}
 use Rattle.pdb_words.specs.Numbers.{number_in}
 use Rattle.pdb_words.specs.Prove.{file_or_input}
 use Rattle.pdb_words.specs.Rows.{command, needed_file, needed_files, needed_number}
@@ -21,7 +22,7 @@ needed_count = needed_number (codes "K") (parser.Signed (pos 1) (pos most_parts)
 
 -- the command, as `clap` sees it
 abbrev pub parts_command : App
-parts_command = command (codes "parts") (needed_file (codes "BOARD") ∷ needed_bound ∷ needed_count ∷ needed_files (codes "ANSWERS") ∷ [])
+parts_command = command (codes "parts") (needed_file (codes "BOARD") ∷ goal_flag ∷ needed_bound ∷ needed_count ∷ needed_files (codes "ANSWERS") ∷ [])
 
 -- the bound that the values found of it name
 abbrev pub bound_in : List Row → ℕ
@@ -42,4 +43,5 @@ parts_in rows = parts (record {
   bound = bound_in rows;
   count = count_in rows;
   answers = files_in (codes "ANSWERS") rows;
+  goal = goal_in rows;
 })

@@ -30,6 +30,10 @@ number_flag name parser = record (new_rule name) { long = Some name; value_names
 abbrev pub usual_number_flag : Text → ValueParser → Text → Rule
 usual_number_flag name parser usual = record (number_flag name parser) { defaults = usual ∷ [] }
 
+-- the flag `--NAME WORD`, and without the flag the usual word
+abbrev pub word_flag : Text → Text → Rule
+word_flag name usual = record (new_rule name) { long = Some name; value_names = 1; defaults = usual ∷ [] }
+
 -- the command of this name that takes these
 abbrev pub command : Text → List Rule → App
 command name rules = record { top = record (new_shape name) { rules = rules }; subs = [] }

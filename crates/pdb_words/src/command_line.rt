@@ -5,12 +5,16 @@ ghost use Rattle.std.specs.Option.{MatchOption};
 ghost use Rattle.clap.specs.Words.{App, FailsBy, app_of, subcommand_of, subcommand_rows_of, with_subcommand};
 ghost use Rattle.clap.specs.declared.error.kind.ErrorKind.TheVariants.{ValueValidation};
 ghost use Rattle.pdb_request.specs.Asked.{HasBudget, HasOddCount, request_shown};
-ghost use Rattle.pdb_words.specs.CommandLine.{Parses, asked_in, asked_of, checks, command_line, parse_faults, program, value_faults_in};
+ghost use Rattle.pdb_words.specs.Arguments.{rows_found};
+ghost use Rattle.pdb_words.specs.CommandLine.{Parses, asked_in, asked_of, checks, command_line, own_faults, parse_faults, program, value_faults_in};
 ghost use Rattle.pdb_words.specs.Commands.{IsCommand};
 ghost use Rattle.pdb_words.specs.Faults.{IsCauseOfWordFault, IsMistakeOrMemory, IsPlainlySaid};
 ghost use Rattle.pdb_words.specs.Workers.{HasWorkers};
 
-use crate::faults::{WordFault, even_count_text, fault_by, mistake, wrong_mask_text};
+use crate::faults::{
+    WordFault, even_count_text, fault_by, mistake, wrong_goal_text, wrong_mask_text,
+};
+use crate::goal::wrong_goal_in;
 use crate::log_checks::{bound_command, check_in, optimal_command};
 use crate::make_table::{make_table_command, make_table_in, wrong_mask_in};
 use crate::parts::{count_in, has_odd_count, parts_command, parts_in};
@@ -21,6 +25,7 @@ use crate::solve::{solve_command, solve_in};
 use crate::table::{table_command, table_in};
 use clap::{ArgMatches, Command};
 use pdb_request::{LogClaim, Replay, Request};
+use puz_goal::Goal;
 use std::alloc::{AllocError, Global};
 
 /// What stands at the end of the help.
@@ -110,19 +115,33 @@ fn matches_of<'a>(alloc: Global, words: &'a [String]) -> Result<ArgMatches<'a>, 
     command_line(alloc)?.try_get_matches_from(words)
 }
 
-/// The fault of a value in these matches of words, where one is wrong: a mask, or an even count of parts.
+/// The fault of a value in these matches of words, where one is wrong: a goal, a mask, or an even count of parts.
 fn wrong_value(alloc: Global, matches: &ArgMatches<'_>) -> Option<WordFault>
     ensures faults { let faults = value_faults_in (subcommand_rows_of matches.now) in
         MatchOption result (faults ≡ []) (λ _. faults ≡ ValueValidation ∷ []) }
     ensures kind { IfSome result IsMistakeOrMemory }
     ensures plain { IfSome result IsPlainlySaid }
 {
-    match matches.subcommand() {
-        Some(("make-table", found)) => match wrong_mask_in(found) {
+    let (name, found) = matches.subcommand()?;
+    match wrong_goal_in(found) {
+        Some(word) => Some(mistake(alloc, wrong_goal_text(alloc, word))),
+        None => wrong_own_value(alloc, name, found),
+    }
+}
+
+/// The same of a value that only the command of this name has.
+fn wrong_own_value(alloc: Global, name: &str, found: &ArgMatches<'_>) -> Option<WordFault>
+    ensures faults { let faults = own_faults name.now (rows_found found.now) in
+        MatchOption result (faults ≡ []) (λ _. faults ≡ ValueValidation ∷ []) }
+    ensures kind { IfSome result IsMistakeOrMemory }
+    ensures plain { IfSome result IsPlainlySaid }
+{
+    match name {
+        "make-table" => match wrong_mask_in(found) {
             None => None,
             Some(word) => Some(mistake(alloc, wrong_mask_text(alloc, word))),
         },
-        Some(("parts", found)) => if has_odd_count(found) {
+        "parts" => if has_odd_count(found) {
             None
         } else {
             Some(mistake(alloc, even_count_text(alloc, count_in(found))))
@@ -142,7 +161,10 @@ fn request_in<'a>(alloc: Global, matches: &ArgMatches<'a>) -> Result<Request<'a>
     ensures count { IfOk result HasOddCount }
 {
     match matches.subcommand() {
-        None => Ok(Request::Replay(Replay { puzzle: None })),
+        None => Ok(Request::Replay(Replay {
+            puzzle: None,
+            goal: Goal::First,
+        })),
         Some(("replay", found)) => Ok(replay_in(found)),
         Some(("table", found)) => Ok(table_in(found)),
         Some(("bound", found)) => check_in(alloc, found, LogClaim::Bound),

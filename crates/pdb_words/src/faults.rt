@@ -84,6 +84,13 @@ pub(crate) fn wrong_mask_text(alloc: Global, word: &str) -> Result<String, Alloc
     format!(in alloc; "{before}{wanted}{behind}")
 }
 
+/// What is said of a word that writes no goal, in the form of any other mistake.
+pub(crate) fn wrong_goal_text(alloc: Global, word: &str) -> Result<String, AllocError> {
+    format!(in alloc;
+        "error: invalid value '{word}' for '--goal <first|last>'\n\nFor more information, try '--help'.\n"
+    )
+}
+
 /// What is said of a count of parts that isn't odd, in the form of any other mistake.
 pub(crate) fn even_count_text(alloc: Global, count: u16) -> Result<String, AllocError> {
     format!(in alloc;

@@ -6,6 +6,7 @@ mod command_line;
 mod faults;
 mod files;
 mod fold;
+mod goal;
 mod log_checks;
 mod make_table;
 mod masks;

@@ -1,4 +1,5 @@
-//! The words of `bound [--workers N] [--fold] BOARD SETS LOG TABLES..`, and of `optimal`, which has PUZZLE in place of BOARD.
+//! The words of `bound [--workers N] [--fold] [--goal first|last] BOARD SETS LOG TABLES..`, and of `optimal`, which has PUZZLE in
+//! place of BOARD.
 
 ghost use Rattle.std.specs.Prelude.{◌≡◌, IfOk};
 ghost use Rattle.clap.specs.Words.{app_of};
@@ -9,6 +10,7 @@ ghost use Rattle.pdb_words.specs.Workers.{HasWorkers};
 
 use crate::files::{SETS, TABLES, file_in, files_in};
 use crate::fold::{FOLD, fold_in};
+use crate::goal::{GOAL, goal_in};
 use crate::rows::{Kind, Page, Row, command_of, with_statuses};
 use crate::workers::{WORKERS, workers_in};
 use clap::{ArgMatches, Command};
@@ -29,7 +31,7 @@ pub(crate) fn bound_command<'a>(alloc: Global) -> Result<Command<'a>, AllocError
     let page = Page {
         name: "bound",
         about: "Says whether a log proves that no solution of a board has fewer moves than its bound",
-        usage: "pdb_cli bound [--workers N] [--fold] BOARD SETS LOG TABLES..",
+        usage: "pdb_cli bound [--workers N] [--fold] [--goal first|last] BOARD SETS LOG TABLES..",
         after_help: with_statuses!(
             "Reads all of these files. Answers the digests of the tables and the log, and `bound N`,
 or `refused ..` with what is wrong first.",
@@ -44,6 +46,7 @@ or `refused ..` with what is wrong first.",
         },
         WORKERS,
         FOLD,
+        GOAL,
         SETS,
         LOG,
         TABLES,
@@ -58,7 +61,7 @@ pub(crate) fn optimal_command<'a>(alloc: Global) -> Result<Command<'a>, AllocErr
     let page = Page {
         name: "optimal",
         about: "Says whether a log proves that the moves of a puzzle text are a shortest solution",
-        usage: "pdb_cli optimal [--workers N] [--fold] PUZZLE SETS LOG TABLES..",
+        usage: "pdb_cli optimal [--workers N] [--fold] [--goal first|last] PUZZLE SETS LOG TABLES..",
         after_help: with_statuses!(
             "Reads all of these files. Answers the digests of the tables and the log, and `optimal N`,
 or `refused ..` with what is wrong first.",
@@ -73,6 +76,7 @@ or `refused ..` with what is wrong first.",
         },
         WORKERS,
         FOLD,
+        GOAL,
         SETS,
         LOG,
         TABLES,
@@ -109,5 +113,6 @@ pub(crate) fn check_in<'a>(
         tables: files_in(alloc, found, "TABLES")?,
         workers: workers_in(found),
         fold: fold_in(found),
+        goal: goal_in(found),
     }))
 }

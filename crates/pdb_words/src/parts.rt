@@ -1,4 +1,4 @@
-//! The words of `parts BOARD N K ANSWERS..`.
+//! The words of `parts [--goal first|last] BOARD N K ANSWERS..`.
 
 ghost use Rattle.std.specs.Prelude.{◌≡◌, ◌↔◌, [], IfOk, IsTrue};
 ghost use Rattle.clap.specs.Words.{app_of};
@@ -8,6 +8,7 @@ ghost use Rattle.pdb_words.specs.Parts.{bound_in, count_faults, count_in, parts_
 ghost use Rattle.pdb_words.specs.Workers.{HasWorkers};
 
 use crate::files::{file_in, files_in};
+use crate::goal::{GOAL, goal_in};
 use crate::numbers::number_in;
 use crate::prove::file_or_input;
 use crate::rows::{Kind, Page, Row, command_of, with_statuses};
@@ -44,7 +45,7 @@ pub(crate) fn parts_command<'a>(alloc: Global) -> Result<Command<'a>, AllocError
     let page = Page {
         name: "parts",
         about: "Says a bound where lines say that all its parts hold, or which parts are open",
-        usage: "pdb_cli parts BOARD N K ANSWERS..",
+        usage: "pdb_cli parts [--goal first|last] BOARD N K ANSWERS..",
         after_help: with_statuses!(
             "ANSWERS are files of lines as `prove` writes them, at least one; - is a file of that name. Where
 a line `part I/K of bound N of BOARD` stands in them for each I below K, it writes the digest of
@@ -63,6 +64,7 @@ no line.",
             kind: Kind::Word,
             help: "The file of the board, or - for standard input",
         },
+        GOAL,
         BOUND,
         COUNT,
         ANSWERS,
@@ -104,5 +106,6 @@ pub(crate) fn parts_in<'a>(alloc: Global, found: &ArgMatches<'a>) -> Result<Requ
         bound: bound_in(found),
         count: count_in(found),
         answers: files_in(alloc, found, "ANSWERS")?,
+        goal: goal_in(found),
     }))
 }

@@ -1,4 +1,4 @@
-//! The words of `prove [--workers N] [--fold] [--budget N] CLAIMS SETS TABLES..`.
+//! The words of `prove [--workers N] [--fold] [--goal first|last] [--budget N] CLAIMS SETS TABLES..`.
 
 ghost use Rattle.std.specs.Prelude.{◌≡◌, IfOk, option_map};
 ghost use Rattle.clap.specs.Words.{app_of};
@@ -10,6 +10,7 @@ ghost use Rattle.pdb_words.specs.Workers.{HasWorkers};
 use crate::budget::{OPTIONAL, optional_budget_in};
 use crate::files::{SETS, TABLES, file_in, files_in};
 use crate::fold::{FOLD, fold_in};
+use crate::goal::{GOAL, goal_in};
 use crate::rows::{Kind, Page, Row, command_of, with_statuses};
 use crate::workers::{WORKERS, workers_in};
 use clap::{ArgMatches, Command};
@@ -23,7 +24,7 @@ pub(crate) fn prove_command<'a>(alloc: Global) -> Result<Command<'a>, AllocError
     let page = Page {
         name: "prove",
         about: "Proves bounds and shortest solutions of many boards by a search, without a log",
-        usage: "pdb_cli prove [--workers N] [--fold] [--budget N] CLAIMS SETS TABLES..",
+        usage: "pdb_cli prove [--workers N] [--fold] [--goal first|last] [--budget N] CLAIMS SETS TABLES..",
         after_help: with_statuses!(
             "CLAIMS has a claim a line:
   BOARD               asks for a shortest solution
@@ -45,6 +46,7 @@ No log is needed. Workers share the check of the tables and the search.",
         },
         WORKERS,
         FOLD,
+        GOAL,
         SETS,
         TABLES,
         OPTIONAL,
@@ -71,6 +73,7 @@ pub(crate) fn prove_in<'a>(alloc: Global, found: &ArgMatches<'a>) -> Result<Requ
         tables: files_in(alloc, found, "TABLES")?,
         workers: workers_in(found),
         fold: fold_in(found),
+        goal: goal_in(found),
         budget: optional_budget_in(found),
     }))
 }

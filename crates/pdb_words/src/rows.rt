@@ -25,6 +25,8 @@ pub(crate) enum Kind<'a> {
     NumberFlag(ValueParser<'a>),
     /// The same, where nothing stands for this number.
     UsualNumberFlag(ValueParser<'a>, &'a str),
+    /// The flag `--ID VALUE` with a word, or nothing for this word. The help has this for the value.
+    WordFlag(&'a str, &'a str),
 }
 
 /// A word or a flag of a command.
@@ -80,6 +82,7 @@ fn arg_of<'a>(alloc: Global, row: &Row<'a>) -> Arg<'a>
             .value_name("N")
             .value_parser(parser)
             .default_value(usual),
+        Kind::WordFlag(usual, value) => arg.long(row.id).value_name(value).default_value(usual),
     }
 }
 

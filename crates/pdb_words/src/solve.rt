@@ -1,4 +1,4 @@
-//! The words of `solve [--workers N] [--fold] [--budget N] [--replace] BOARD SETS OUT TABLES..`.
+//! The words of `solve [--workers N] [--fold] [--goal first|last] [--budget N] [--replace] BOARD SETS OUT TABLES..`.
 
 ghost use Rattle.std.specs.Prelude.{◌≡◌, IfOk};
 ghost use Rattle.clap.specs.Words.{app_of};
@@ -10,6 +10,7 @@ ghost use Rattle.pdb_words.specs.Workers.{HasWorkers};
 use crate::budget::{USUAL, budget_in};
 use crate::files::{SETS, TABLES, file_in, files_in};
 use crate::fold::{FOLD, fold_in};
+use crate::goal::{GOAL, goal_in};
 use crate::replace::{REPLACE, replace_in};
 use crate::rows::{Kind, Page, Row, command_of, with_statuses};
 use crate::workers::{WORKERS, workers_in};
@@ -24,7 +25,7 @@ pub(crate) fn solve_command<'a>(alloc: Global) -> Result<Command<'a>, AllocError
     let page = Page {
         name: "solve",
         about: "Searches for a shortest solution of a board, and keeps the log that proves it",
-        usage: "pdb_cli solve [--workers N] [--fold] [--budget N] [--replace] BOARD SETS OUT TABLES..",
+        usage: "pdb_cli solve [--workers N] [--fold] [--goal first|last] [--budget N] [--replace] BOARD SETS OUT TABLES..",
         after_help: with_statuses!(
             "The budget is in boards expanded. The usual 1000000 is enough for most boards of side 4 over
 three tables of five tiles whose solutions have fewer than about 55 moves; harder ones take
@@ -48,6 +49,7 @@ Reads BOARD, SETS and TABLES. Answers the digests of the tables and the log, `mo
         },
         WORKERS,
         FOLD,
+        GOAL,
         SETS,
         Row {
             id: "OUT",
@@ -75,6 +77,7 @@ pub(crate) fn solve_in<'a>(alloc: Global, found: &ArgMatches<'a>) -> Result<Requ
         tables: files_in(alloc, found, "TABLES")?,
         workers: workers_in(found),
         fold: fold_in(found),
+        goal: goal_in(found),
         budget: budget_in(found),
     }))
 }

@@ -7,6 +7,7 @@ use claim_text::{
     refused_line, shorter_line, told_index,
 };
 use move_strings::BoundPart;
+use puz_goal::Goal;
 use std::alloc::AllocGlobal;
 use std::process::Abort;
 
@@ -14,35 +15,40 @@ use std::process::Abort;
 fn refused<R: AllocGlobal + Abort>(rt: &R, what: &str, line: &[u8]) -> Line {
     assert!(rt; what.len() <= MOST_WHAT);
     let claims = claims_of(rt, line);
-    refused_line(what, claims.first().expect(rt, "a claim"))
+    let claim = claims.first().expect(rt, "a claim");
+    refused_line(Goal::First, what, claim)
 }
 
 /// The line that says that a solution shows the claim of a line to be false.
 fn shorter<R: AllocGlobal + Abort>(rt: &R, solution: &[u8], line: &[u8]) -> Line {
     assert!(rt; solution.len() <= MOST_SOLUTION);
     let claims = claims_of(rt, line);
-    shorter_line(solution, claims.first().expect(rt, "a claim"))
+    let claim = claims.first().expect(rt, "a claim");
+    shorter_line(Goal::First, solution, claim)
 }
 
 #[test]
 fn each_answer_has_its_line(rt: HostRuntime) {
     let start = board_of(&rt, &[3, 2, 1, 0]);
     let part = BoundPart::new(2, 3).expect(&rt, "a part");
-    let told = part_line(part, 6, &start);
+    let told = part_line(Goal::First, part, 6, &start);
     same(
         &rt,
-        &told_index(told.as_str().as_bytes(), 3, 6, &start),
+        &told_index(Goal::First, told.as_str().as_bytes(), 3, 6, &start),
         &Some(2),
     );
     let lines = [
         (told, "part 2/3 of bound 6 of 3 2 1 0\n"),
-        (bound_line(6, &start), "bound 6 of 3 2 1 0\n"),
         (
-            joined_line(6, 3, &start),
+            bound_line(Goal::First, 6, &start),
+            "bound 6 of 3 2 1 0\n",
+        ),
+        (
+            joined_line(Goal::First, 6, 3, &start),
             "joined bound 6 of 3 2 1 0 from 3 parts, by lines that were read\n",
         ),
         (
-            optimal_line(6, &start, b" U\tLD RUL\r"),
+            optimal_line(Goal::First, 6, &start, b" U\tLD RUL\r"),
             "optimal 6 of 3 2 1 0 ; ULDRUL\n",
         ),
         (

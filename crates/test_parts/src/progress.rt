@@ -127,6 +127,7 @@ fn each_bound_of_each_claim_has_a_pace_of_its_own(rt: HostRuntime) {
     gate.expanded(9_000_000_000_000);
     let lines = [
         "pdb_cli: claim 2, below 42: 1201 boards, 600 a second",
+        "pdb_cli: claim 2: 1801 boards in 3.0 seconds, 600 a second",
         "pdb_cli: claim 4294967296, below 255: 9000000000000 boards, 4500000000000 a second",
     ];
     are_told(&rt, &stage, &lines);

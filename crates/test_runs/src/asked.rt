@@ -1,6 +1,7 @@
 //! What runs are asked for, for tests.
 
 use pdb_request::{LogCheck, LogClaim, Request, Solve};
+use puz_goal::Goal;
 use std::alloc::{AllocError, Global};
 
 /// A claim on a log over these tables.
@@ -17,6 +18,7 @@ pub(crate) fn log_check<'a>(
         tables: tables.to_vec(alloc)?,
         workers: 1,
         fold: false,
+        goal: Goal::First,
     }))
 }
 
@@ -35,6 +37,7 @@ pub(crate) fn search<'a>(alloc: Global) -> Result<Request<'a>, AllocError> {
         tables: vec![in alloc; "t0"]?,
         workers: 1,
         fold: false,
+        goal: Goal::First,
         budget: 1,
     }))
 }

@@ -12,6 +12,7 @@ use pdb_parts::run_parts;
 use pdb_prove::run_prove;
 use pdb_request::{JoinParts, LogCheck, LogClaim, MakeTable, Prove, Replay, Solve, TableCheck};
 use pdb_run::{BorrowedIo, Io, Status};
+use puz_goal::Goal;
 use std::alloc::{AllocError, AllocGlobal, Global};
 use std::process::Abort;
 use std::sync::Wait;
@@ -61,6 +62,7 @@ fn check_of(
         tables: vec![in alloc; "f12", "f3"]?,
         workers: 1,
         fold: false,
+        goal: Goal::First,
     })
 }
 
@@ -74,6 +76,7 @@ fn search(alloc: Global) -> Result<Solve<'static, &'static str>, AllocError> {
         tables: vec![in alloc; "f12", "f3"]?,
         workers: 1,
         fold: false,
+        goal: Goal::First,
         budget: 1_000,
     })
 }
@@ -86,6 +89,7 @@ fn proving(alloc: Global) -> Result<Prove<Option<&'static str>, &'static str>, A
         tables: vec![in alloc; "f12", "f3"]?,
         workers: 1,
         fold: false,
+        goal: Goal::First,
         budget: None,
     })
 }
@@ -99,6 +103,7 @@ fn parts(alloc: Global) -> Result<JoinParts<Option<&'static str>, &'static str>,
         bound: 6,
         count: 1,
         answers: vec![in alloc; "answers"]?,
+        goal: Goal::First,
     })
 }
 
@@ -125,8 +130,9 @@ pub(crate) fn ended<H: Threads + Wait + Sync, I: Io>(
 ) -> Result<Status, AllocError> {
     let alloc = workers.alloc;
     let puzzle = Some("puzzle");
+    let goal = Goal::First;
     let ended = match command {
-        Command::Replay => run_replay(alloc, Replay { puzzle }, io),
+        Command::Replay => run_replay(alloc, Replay { puzzle, goal }, io),
         Command::Table => run_table(&TABLE, workers, io),
         Command::Bound => run_log_check(&check_of(alloc, LogClaim::Bound, "board")?, workers, io),
         Command::Optimal => {

@@ -6,6 +6,7 @@ use crate::same::{same, same_for};
 use pdb_early::{Look, fault_ahead, takes_long};
 use pdb_request::{Replay, Request};
 use pdb_verdict::line_of;
+use puz_goal::Goal;
 use std::alloc::{AllocError, AllocGlobal, Global};
 use std::process::Abort;
 use std::test::Fail;
@@ -156,7 +157,10 @@ fn tables_of_many_bytes_may_take_long(rt: HostRuntime) -> Result<(), Fail> {
     ] {
         expect_long(&rt, &files, tables, wanted)?;
     }
-    let replay = Request::Replay(Replay { puzzle: Some("t0") });
+    let replay = Request::Replay(Replay {
+        puzzle: Some("t0"),
+        goal: Goal::First,
+    });
     assert!(rt; takes_long(&files, &search(rt.alloc())?));
     assert!(rt; !takes_long(&files, &replay));
     Ok(())

@@ -237,7 +237,8 @@ fn help_that_cannot_be_written_is_a_fault(rt: HostRuntime) -> Result<(), Fail> {
 
 /// What `parts` tells on its errors beside a yes.
 const SKIPPED: &[u8] =
-    b"pdb_cli: lines that tell of no part of this bound, and were skipped: 1 of 4\n";
+    b"pdb_cli: lines that tell of no part of this bound, and were skipped: 1 of 4\n\
+      pdb_cli: the first of them is line 1 of sets: set 0\n";
 
 /// The write of this number on the errors fails in this way, as all behind it do: their front is written, and the answer whole.
 fn expect_errors_cut<H: Threads + Wait + Sync + Abort>(

@@ -3,8 +3,9 @@
 use crate::same::{holds_for, same, same_for};
 use claim_text::{Asks, part_line, read_claims};
 use move_strings::BoundPart;
-use pdb_parts::{BoundInParts, Joined, join};
+use pdb_parts::{AnswerFiles, BoundInParts, Joined, join};
 use puz_board::Board;
+use puz_goal::Goal;
 use std::alloc::{AllocError, AllocGlobal, Global};
 use std::process::Abort;
 use std::test::Fail;
@@ -14,15 +15,20 @@ fn board(rt: &impl Abort) -> Board {
     Board::from_cells(&[3, 2, 1, 0]).expect(rt, "a board")
 }
 
-/// What is said of the bound 6 of that board in so many parts, where these texts were read.
+/// What is said of the bound 6 of that board in so many parts, where these texts were read, of files `a`, `b` and `c`.
 fn joined<R: AllocGlobal + Abort>(rt: &R, count: u16, texts: &[Vec<u8>]) -> Joined {
     assert!(rt; count % 2 == 1);
     let asked = BoundInParts {
         board: board(rt),
         bound: 6,
         count,
+        goal: Goal::First,
     };
-    join(rt.alloc(), texts, &asked).ok().expect(rt, "memory")
+    let files = AnswerFiles {
+        names: &["a", "b", "c"],
+        texts,
+    };
+    join(rt.alloc(), files, &asked).ok().expect(rt, "memory")
 }
 
 /// These texts, as vectors.
@@ -54,6 +60,8 @@ fn expect_case<R: AllocGlobal + Abort>(rt: &R, case: &Case<'_>) -> Result<(), Fa
 
 const FIRST: &[u8] = b"part 2/3 of bound 6 of 3 2 1 0\nx\n";
 
+const FIRST_SKIPPED: &str = "pdb_cli: the first of them is line 2 of a: x\n";
+
 const CUT: &[u8] = b"part 0/3 of bound 6 of 3 2 1 0\npart 1/3 of";
 
 const LAST: &[u8] = b" bound 6 of 3 2 1 0\npart 1/3 of bound 6 of 3 2 1 0\n";
@@ -64,6 +72,7 @@ fn parts_may_come_from_several_texts(rt: HostRuntime) -> Result<(), Fail> {
     let mut told = String::new(rt.alloc());
     told.push_str(skipped)?;
     told.push_str("1 of 3\n")?;
+    told.push_str(FIRST_SKIPPED)?;
     let open = Case {
         texts: &[FIRST, CUT],
         end: "3 2 1 0 : 6 part 1/3\n",
@@ -74,6 +83,7 @@ fn parts_may_come_from_several_texts(rt: HostRuntime) -> Result<(), Fail> {
     let mut told = String::new(rt.alloc());
     told.push_str(skipped)?;
     told.push_str("2 of 5\n")?;
+    told.push_str(FIRST_SKIPPED)?;
     let whole = Case {
         texts: &[FIRST, CUT, LAST],
         end: "joined bound 6 of 3 2 1 0 from 3 parts, by lines that were read\n",
@@ -99,7 +109,11 @@ fn open_parts_are_read_as_claims_and_their_answers_give_the_bound(
     let mut answers = Vec::new(rt.alloc());
     for index in 0..63 {
         let part = BoundPart::new(index, 63).expect(&rt, "a part");
-        answers.extend_from_slice(part_line(part, 6, &board(&rt)).as_str().as_bytes())?;
+        answers.extend_from_slice(
+            part_line(Goal::First, part, 6, &board(&rt))
+                .as_str()
+                .as_bytes(),
+        )?;
     }
     let last = BoundPart::new(62, 63).expect(&rt, "a part");
     expect_last(&rt, open.text.as_bytes(), 63, last);

@@ -6,6 +6,7 @@ use crate::bytes::joined;
 use crate::same::same_bytes;
 use crate::sha256;
 use pdb_verdict::{Inputs, Verdict, digests, line, report, verify, verify_puzzle};
+use puz_goal::Goal;
 use std::alloc::AllocGlobal;
 use std::process::Abort;
 use std::sync::Wait;
@@ -52,6 +53,7 @@ fn each_kind_of_inputs_has_its_verdict(rt: HostRuntime) -> Result<(), Fail> {
             log,
             tables,
             fold,
+            goal: Goal::First,
         };
         let optimal = Inputs::Optimal {
             puzzle: b"3 2 1 0 ; ULDRUL",
@@ -59,6 +61,7 @@ fn each_kind_of_inputs_has_its_verdict(rt: HostRuntime) -> Result<(), Fail> {
             log,
             tables,
             fold,
+            goal: Goal::First,
         };
         for workers in [1u8, 2, 7, 64] {
             expect_tells(&rt, &bound, workers, (of_log, b"bound 6\n"))?;
@@ -70,6 +73,7 @@ fn each_kind_of_inputs_has_its_verdict(rt: HostRuntime) -> Result<(), Fail> {
     expect_tells(&rt, &table, 7, (sha256::OF_12, exact))?;
     let replay = Inputs::Replay {
         puzzle: b"3 2 1 0 ; ULDRUL\n",
+        goal: Goal::First,
     };
     expect_tells(&rt, &replay, 1, (b"", b"solution 6\n"))
 }
@@ -77,7 +81,7 @@ fn each_kind_of_inputs_has_its_verdict(rt: HostRuntime) -> Result<(), Fail> {
 #[test]
 fn a_puzzle_text_has_its_line(rt: HostRuntime) -> Result<(), Fail> {
     let mut out = Vec::new(rt.alloc());
-    assert!(rt; line(&verify_puzzle(b"0 1 2 x ;u"), &mut out).is_ok());
+    assert!(rt; line(&verify_puzzle(Goal::First, b"0 1 2 x ;u"), &mut out).is_ok());
     same_bytes(&rt, out.as_slice(), b"refused B1 at byte 6\n");
     Ok(())
 }
@@ -92,6 +96,7 @@ fn two_workers_check_lemmas_side_by_side(rt: HostRuntime) -> Result<(), Fail> {
         log: &CITATION,
         tables: tables.as_slice(),
         fold: false,
+        goal: Goal::First,
     };
     // The first job of all is the table's.
     let gate = HoldingGate::new(&[0], &[1]).among(1..u64::MAX);

@@ -5,6 +5,7 @@ use pdb_request::{
     JoinParts, LogCheck, LogClaim, MakeTable, Prove, Replay, Request, Solve, TableCheck,
 };
 use pdb_words::read_words;
+use puz_goal::Goal;
 use std::alloc::{AllocError, AllocGlobal, Global};
 use std::process::Abort;
 use std::test::Fail;
@@ -36,7 +37,8 @@ fn expect_request<R: AllocGlobal + Abort>(
 fn words_ask_for_what_writes_nothing(rt: HostRuntime) -> Result<(), Fail> {
     let file = "f";
     let puzzle = Some("-");
-    expect_request(&rt, "replay -", &Request::Replay(Replay { puzzle }))?;
+    let goal = Goal::First;
+    expect_request(&rt, "replay -", &Request::Replay(Replay { puzzle, goal }))?;
     let table = TableCheck { file, workers: 64 };
     expect_request(&rt, "table --workers=64 f", &Request::TableCheck(table))?;
     let wanted = Request::LogCheck(LogCheck {
@@ -47,14 +49,16 @@ fn words_ask_for_what_writes_nothing(rt: HostRuntime) -> Result<(), Fail> {
         tables: vec![in rt.alloc(); "t", "u"]?,
         workers: 1,
         fold: true,
+        goal: Goal::Last,
     });
-    expect_request(&rt, "optimal --fold p s l t u", &wanted)?;
+    expect_request(&rt, "optimal --fold --goal last p s l t u", &wanted)?;
     let wanted = Request::Prove(Prove {
         claims: None,
         sets: "s",
         tables: vec![in rt.alloc(); "-t"]?,
         workers: 7,
         fold: false,
+        goal: Goal::First,
         budget: Some(9),
     });
     expect_request(&rt, "prove --budget 9 --workers 7 -- - s -t", &wanted)?;
@@ -63,6 +67,7 @@ fn words_ask_for_what_writes_nothing(rt: HostRuntime) -> Result<(), Fail> {
         bound: 255,
         count: 65_535,
         answers: vec![in rt.alloc(); "-", "a"]?,
+        goal: Goal::First,
     });
     expect_request(&rt, "parts ./- 255 65535 - a", &wanted)?;
     Ok(())
@@ -78,6 +83,7 @@ fn words_ask_for_what_is_to_be_kept(rt: HostRuntime) -> Result<(), Fail> {
         tables: vec![in rt.alloc(); "t"]?,
         workers: 1,
         fold: false,
+        goal: Goal::First,
         budget: 1_000_000,
     });
     expect_request(&rt, "solve b s o t --replace", &wanted)?;

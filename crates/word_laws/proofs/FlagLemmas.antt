@@ -10,10 +10,10 @@ use Rattle.clap.specs.Lexer.{long_of}
 use Rattle.clap.specs.Simple.{Shape, filled, help_rule}
 use Rattle.clap.specs.Walk.{Held, Rule, Text, Walk, arg_by_index, arg_by_long, nothing_held, walk_from, walked}
 use Rattle.pdb_words.specs.CommandLine.{Parses}
-use Rattle.pdb_words.specs.Commands.{IsCommand, commands}
+use Rattle.pdb_words.specs.Commands.{IsCommand, IsOneOf, commands}
 use Rattle.pdb_words.proofs.CommandLemmas.{leaf, none_wrong, parse_faults_behind, parse_right}
 use Rattle.pdb_words.proofs.TextLemmas.{each_holds, same_text}
-use Rattle.word_laws.specs.Flags.{IsLongFlag, TakesFlag}
+use Rattle.word_laws.specs.Flags.{IsLongFlag, TakesFlag, boarding_commands}
 
 -- no argument takes all words that follow
 abbrev NoneTrails : Shape → Type 0
@@ -50,40 +50,58 @@ help_wrong again c name v h = grind arith
 abbrev KnowsItsFlags : Text → Type 0
 KnowsItsFlags command = (name : Text) → (arg_by_long (leaf command).rules name ≡ arg_by_long help_alone name) ⊎ TakesFlag command name
 
+-- `--goal`, or another flag of the command
+goal_or : (command : Text) → IsOneOf boarding_commands command
+    → ((name : Text) → bytes_eq (codes "goal") name ≡ false → (arg_by_long (leaf command).rules name ≡ arg_by_long help_alone name) ⊎ TakesFlag command name)
+    → KnowsItsFlags command
+goal_or command boards others name = elim (cases_Bool (bytes_eq (codes "goal") name)) [
+  | inl g ↦ inr (inr (inr (inr (inr (boards, sym (same_text (codes "goal") name g))))))
+  | inr g ↦ others name g
+]
+
+replay_knows : KnowsItsFlags (codes "replay")
+replay_knows = goal_or (codes "replay") (inl refl) (λ name g. rw g (grind arith))
+
+bound_knows : KnowsItsFlags (codes "bound")
+bound_knows = goal_or (codes "bound") (inr (inl refl)) (λ name g. rw g (grind arith))
+
+optimal_knows : KnowsItsFlags (codes "optimal")
+optimal_knows = goal_or (codes "optimal") (inr (inr (inl refl))) (λ name g. rw g (grind arith))
+
+parts_knows : KnowsItsFlags (codes "parts")
+parts_knows = goal_or (codes "parts") (inr (inr (inr (inr (inr (inl refl)))))) (λ name g. rw g (grind arith))
+
 solve_knows : KnowsItsFlags (codes "solve")
-solve_knows name = elim (cases_Bool (bytes_eq (codes "budget") name)) [
+solve_knows = goal_or (codes "solve") (inr (inr (inr (inl refl)))) (λ name g. elim (cases_Bool (bytes_eq (codes "budget") name)) [
   | inl e ↦ inr (inr (inr (inl (inl refl, sym (same_text (codes "budget") name e)))))
   | inr e ↦ elim (cases_Bool (bytes_eq (codes "replace") name)) [
-    | inl r ↦ inr (inr (inr (inr (inr (inl refl), sym (same_text (codes "replace") name r)))))
+    | inl r ↦ inr (inr (inr (inr (inl (inr (inl refl), sym (same_text (codes "replace") name r))))))
     | inr r ↦ elim (cases_Bool (bytes_eq (codes "fold") name)) [
       | inl f ↦ inr (inr (inl (inr (inr (inl refl)), sym (same_text (codes "fold") name f))))
-      | inr f ↦ rw (e, r, f) (grind arith)
+      | inr f ↦ rw (g, e, r, f) (grind arith)
     ]
   ]
-]
+])
 
 make_table_knows : KnowsItsFlags (codes "make-table")
 make_table_knows name = elim (cases_Bool (bytes_eq (codes "replace") name)) [
-  | inl r ↦ inr (inr (inr (inr (inl refl, sym (same_text (codes "replace") name r)))))
+  | inl r ↦ inr (inr (inr (inr (inl (inl refl, sym (same_text (codes "replace") name r))))))
   | inr r ↦ rw r (grind arith)
 ]
 
 prove_knows : KnowsItsFlags (codes "prove")
-prove_knows name = elim (cases_Bool (bytes_eq (codes "budget") name)) [
+prove_knows = goal_or (codes "prove") (inr (inr (inr (inr (inl refl))))) (λ name g. elim (cases_Bool (bytes_eq (codes "budget") name)) [
   | inl e ↦ inr (inr (inr (inl (inr (inl refl), sym (same_text (codes "budget") name e)))))
-  | inr e ↦ rw e (grind arith)
-]
+  | inr e ↦ elim (cases_Bool (bytes_eq (codes "fold") name)) [
+    | inl f ↦ inr (inr (inl (inr (inr (inr (inl refl))), sym (same_text (codes "fold") name f))))
+    | inr f ↦ rw (g, e, f) (grind arith)
+  ]
+])
 
 all_know : (command : Text) → IsCommand command → KnowsItsFlags command
 all_know = each_holds KnowsItsFlags commands (
-  λ name. grind arith,
-  (
-    λ name. grind arith,
-    (
-      λ name. grind arith,
-      (λ name. grind arith, (make_table_knows, (solve_knows, (prove_knows, (λ name. grind arith, tt))))),
-    ),
-  ),
+  replay_knows,
+  (λ name. grind arith, (bound_knows, (optimal_knows, (make_table_knows, (solve_knows, (prove_knows, (parts_knows, tt))))))),
 )
 
 -- behind a command's name, and no `--`, there are no flags but these

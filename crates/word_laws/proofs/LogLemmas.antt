@@ -7,16 +7,17 @@ use Rattle.clap.specs.Walk.{Text}
 use Rattle.clap.specs.declared.error.kind.ErrorKind.TheVariants as kind
 use Rattle.clap.proofs.OnLiterals.{clap_on_literals}
 use Rattle.pdb_request.specs.Asked.{Asked, bound, optimal}
+use Rattle.puz_goal.specs.declared.goals.Goal.TheVariants.{Last}
 use Rattle.pdb_words.specs.Budget.{usual_budget}
-use Rattle.pdb_words.specs.CommandLine.{faults_of}
+use Rattle.pdb_words.specs.CommandLine.{parse_faults}
 use Rattle.pdb_words.specs.Commands.{IsCommand, IsPlain}
 use Rattle.pdb_words.specs.Faults.{IsMistaken}
 use Rattle.pdb_words.specs.Numbers.{number_of}
-use Rattle.pdb_words.proofs.CommandLemmas.{faults_behind, mistaken}
+use Rattle.pdb_words.proofs.CommandLemmas.{mistaken_parse, parse_faults_behind}
 use Rattle.word_laws.proofs.WalkLemmas.{AsksIf, Comes, FitsTables, Word, asks_if, budgets, flag, missing, numbered, plain, tables_come, text_of}
 use Rattle.word_laws.proofs.WalkLemmas.{unless, workers}
 use Rattle.word_laws.specs.Asking.{AsksFor}
-use Rattle.word_laws.specs.LogWords.{AsksOfLog, LogNames, NamesLog, log_words, of_names, search_within, with_fold}
+use Rattle.word_laws.specs.LogWords.{AsksOfLog, LogNames, NamesLog, log_words, of_names, of_names_for, search_within, with_fold}
 use Rattle.word_laws.specs.NumberTexts.{writes_budget, writes_workers}
 
 -- a command that names a log
@@ -83,6 +84,12 @@ module _ (names : LogNames) where
   plain_asked : (command : LogCommand) (folds : Bool) → AsksFor (name_of command ∷ with_fold folds (log_words names)) (of_names (asks command) names 1 folds)
   unfolding clap_on_literals
   plain_asked command folds = rw append-nil at (each_comes [] [] (λ tables. or_else tables []) (λ c f. of_names (asks c) names 1 f) command folds assumption)
+
+  goal_asked : (command : LogCommand) (folds : Bool)
+      → AsksFor (name_of command ∷ with_fold folds (codes "--goal" ∷ codes "last" ∷ log_words names)) (of_names_for Last (asks command) names 1 folds)
+  unfolding clap_on_literals
+  goal_asked command folds = rw append-nil at (each_comes (flag (codes "--goal") ∷ flag (codes "last") ∷ []) [] (λ tables. or_else tables [])
+      (λ c f. of_names_for Last (asks c) names 1 f) command folds assumption)
 
   module _ (number : Text) (is : IsPlain number) where
     workers_first : (command : LogCommand) (folds : Bool)
@@ -156,10 +163,10 @@ tableless on_search false text sets log t s l = missing (is_command on_search) (
 tableless command false text sets log t s l = missing (is_command command) (plain text t ∷ plain sets s ∷ plain log l ∷ []) refl
 
 -- `--fold` twice
-folded_twice : (command : LogCommand) (words : List Text) → faults_of (name_of command ∷ codes "--fold" ∷ codes "--fold" ∷ words) ≡ kind.ArgumentConflict ∷ []
+folded_twice : (command : LogCommand) (words : List Text) → parse_faults (name_of command ∷ codes "--fold" ∷ codes "--fold" ∷ words) ≡ kind.ArgumentConflict ∷ []
 unfolding clap_on_literals
-folded_twice on_search words = faults_behind (codes "solve") (is_command on_search) (codes "--fold" ∷ codes "--fold" ∷ words)
-folded_twice command words = faults_behind (name_of command) (is_command command) (codes "--fold" ∷ codes "--fold" ∷ words)
+folded_twice on_search words = parse_faults_behind (codes "solve") (is_command on_search) (codes "--fold" ∷ codes "--fold" ∷ words)
+folded_twice command words = parse_faults_behind (name_of command) (is_command command) (codes "--fold" ∷ codes "--fold" ∷ words)
 
 -- what these commands share
 pub names_log : (command : LogCommand) → NamesLog (name_of command) (asks command)
@@ -171,7 +178,8 @@ names_log command = record {
   workers_last = λ names folds number n. (workers_last names number n command folds).0;
   other_workers_last = λ names folds number n. (workers_last names number n command folds).1;
   fold_last = λ names. fold_asked names command;
-  fold_twice = λ words. mistaken _ kind.ArgumentConflict [] (folded_twice command words) (λ e. cc) (λ e. cc);
+  goal_last = λ names folds. goal_asked names command folds;
+  fold_twice = λ words. mistaken_parse _ kind.ArgumentConflict [] (folded_twice command words) (λ e. cc) (λ e. cc);
 }
 
 -- the words of `bound`

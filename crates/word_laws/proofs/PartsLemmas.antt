@@ -8,6 +8,7 @@ use Rattle.clap.specs.Walk.{Text}
 use Rattle.clap.specs.declared.error.kind.ErrorKind.TheVariants as kind
 use Rattle.clap.proofs.OnLiterals.{clap_on_literals}
 use Rattle.pdb_request.specs.Asked.{Asked, parts}
+use Rattle.puz_goal.specs.declared.goals.Goal.TheVariants.{First}
 use Rattle.pdb_words.specs.CommandLine.{faults_of}
 use Rattle.pdb_words.specs.Commands.{IsCommand, IsPlain}
 use Rattle.pdb_words.specs.Faults.{IsMistaken}
@@ -60,6 +61,7 @@ module _ (words : PartsWords) where
     bound = bound;
     count = count;
     answers = words.answers ∷ words.more_answers;
+    goal = First;
   })
 
   abbrev kinds : Kinds → Kinds
@@ -101,6 +103,7 @@ module _ (words : PartsWords) where
               bound = number_of words.bound;
               count = number_of words.count;
               answers = words.answers ∷ words.more_answers;
+              goal = First;
             })) (file_is words.board),
       )
 

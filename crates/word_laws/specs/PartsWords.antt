@@ -2,6 +2,7 @@
 use Rattle.std.specs.Prelude.{◌≡◌, ◌%◌, List, ◌∷◌, true}
 use Rattle.clap.specs.Walk.{Text}
 use Rattle.pdb_request.specs.Asked.{Asked, parts}
+use Rattle.puz_goal.specs.declared.goals.Goal.TheVariants.{First}
 use Rattle.pdb_words.specs.Commands.{IsPlain}
 use Rattle.pdb_words.specs.Numbers.{number_of}
 use Rattle.word_laws.specs.Asking.{AreNames, TextFrom, text_file, text_word}
@@ -33,4 +34,5 @@ asks_for_parts words = parts (record {
   bound = number_of words.bound;
   count = number_of words.count;
   answers = words.answers ∷ words.more_answers;
+  goal = First;
 })

@@ -1,11 +1,13 @@
 //! What holds of all words. Each function here says it, and does nothing.
 
-ghost use Rattle.std.specs.Prelude.{◌≡◌, ◌≢◌, ◌∷◌, ◌++◌, [], ℕ, List, Some, codes, false, true};
+ghost use Rattle.std.specs.Prelude.{◌≡◌, ◌≢◌, ◌∷◌, ◌++◌, [], ℕ, List, None, Some, codes, false, true};
 ghost use Rattle.std.specs.List.{All};
 ghost use Rattle.pdb_request.specs.Asked.{bound, optimal, replay, table};
+ghost use Rattle.puz_goal.specs.declared.goals.Goal.TheVariants.{First, Last};
 ghost use Rattle.pdb_words.specs.CommandLine.{Parses};
 ghost use Rattle.pdb_words.specs.Commands.{BeginsWithCommand, IsCommand, IsPlain};
 ghost use Rattle.pdb_words.specs.Faults.{IsMistaken};
+ghost use Rattle.pdb_words.specs.Goal.{goal_written};
 ghost use Rattle.pdb_words.specs.Numbers.{number_of};
 ghost use Rattle.pdb_words.specs.Replay.{replay_input};
 ghost use Rattle.word_laws.specs.Asking.{AsksFor};
@@ -13,12 +15,18 @@ ghost use Rattle.word_laws.specs.Flags.{IsLongFlag, TakesFlag};
 ghost use Rattle.word_laws.specs.LogWords.{NamesLog};
 ghost use Rattle.word_laws.specs.NumberTexts.{writes_workers};
 
-/// No words, and `replay` alone, ask for standard input, and `replay` with a name for that file.
+/// No words, and `replay` alone, ask for standard input, and `replay` with a name for that file; with `--goal last` before the name
+/// the blank is last at home.
 pub fn what_replay_asks()
     ensures nothing { AsksFor [] replay_input }
     ensures alone { AsksFor (codes "replay" ∷ []) replay_input }
     ensures file { (name : List ℕ) → IsPlain name
-        → AsksFor (codes "replay" ∷ name ∷ []) (replay (record { puzzle = Some name })) }
+        → AsksFor (codes "replay" ∷ name ∷ []) (replay (record { puzzle = Some name; goal = First })) }
+    ensures goal { (name : List ℕ) → IsPlain name
+        → AsksFor (codes "replay" ∷ codes "--goal" ∷ codes "last" ∷ name ∷ [])
+        (replay (record { puzzle = Some name; goal = Last })) }
+    ensures other_goal { (goal : List ℕ) → IsPlain goal → goal_written goal ≡ None
+        → IsMistaken (codes "replay" ∷ codes "--goal" ∷ goal ∷ []) }
     ensures workers { (number : List ℕ)
         → IsMistaken (codes "replay" ∷ codes "--workers" ∷ number ∷ []) }
 {}
@@ -61,8 +69,8 @@ pub fn what_optimal_asks()
 {}
 
 /// Words that parse begin with a command of the program, and give no flag but those that their command takes:
-/// `--workers`, which `replay` doesn't take, behind `bound`, `optimal`, `solve` and `prove` `--fold`, and behind `solve`
-/// and `prove` `--budget`.
+/// `--workers`, which `replay` doesn't take, behind `bound`, `optimal`, `solve` and `prove` `--fold`, behind these and
+/// `replay` and `parts` `--goal`, and behind `solve` and `prove` `--budget`.
 #[tactic(auto, using(pdb_words::proofs::CommandLemmas::begins_with_command, pdb_words::proofs::CommandLemmas::other_command))]
 pub fn no_other_words_parse()
     ensures commands { (words : List (List ℕ)) → Parses words → BeginsWithCommand words }

@@ -9,7 +9,7 @@ ghost use Rattle.word_laws.specs.NumberTexts.{writes_bound, writes_count};
 ghost use Rattle.word_laws.specs.PartsWords.{PartsWords, WritesParts, asks_for_parts, parts_words};
 
 /// `parts` with the name of a board text, or `-` for standard input, with a bound from 0 to 255, an odd count of parts up to
-/// 65,535 and the names of one file of answers or more asks to join these: the files in their order. It takes no flag.
+/// 65,535 and the names of one file of answers or more asks to join these: the files in their order. It takes no `--workers`.
 pub fn what_parts_asks()
     ensures files { (words : PartsWords) → WritesParts words
         → AsksFor (codes "parts" ∷ parts_words words) (asks_for_parts words) }

@@ -7,12 +7,13 @@ ghost use Rattle.pdb_words.specs.Numbers.{number_of};
 ghost use Rattle.word_laws.specs.Asking.{AsksFor, TextFrom, text_word};
 ghost use Rattle.word_laws.specs.LogWords.{with_fold};
 ghost use Rattle.word_laws.specs.NumberTexts.{writes_budget, writes_workers};
-ghost use Rattle.word_laws.specs.ProveWords.{ProveNames, asks_for_proofs, prove_words};
+ghost use Rattle.word_laws.specs.ProveWords.{ProveNames, asks_for_goal, asks_for_proofs, prove_words};
+ghost use Rattle.puz_goal.specs.declared.goals.Goal.TheVariants.{Last};
 
 /// `prove` with the name of the claims, or `-` for standard input, with the sets and one table or more asks for an
 /// answer to each claim: the tables in their order, one worker, or as many as `--workers` says, and as many boards as it
-/// takes, or as many as `--budget` says, first or last; and with folded tables where `--fold` comes before all or behind
-/// all.
+/// takes, or as many as `--budget` says, first or last; with folded tables where `--fold` comes before all or behind all;
+/// and with the blank last where `--goal last` comes before the names.
 pub fn what_prove_asks()
     ensures files { (names : ProveNames) (folds : Bool)
         → AsksFor (codes "prove" ∷ with_fold folds (prove_words names))
@@ -42,6 +43,10 @@ pub fn what_prove_asks()
         (asks_for_proofs names 1 true None) }
     ensures fold_twice { (words : List (List ℕ))
         → IsMistaken (codes "prove" ∷ codes "--fold" ∷ codes "--fold" ∷ words) }
+    ensures goal_last { (names : ProveNames) (folds : Bool)
+        → AsksFor (codes "prove" ∷ with_fold folds
+        (codes "--goal" ∷ codes "last" ∷ prove_words names))
+        (asks_for_goal Last names 1 folds None) }
     ensures budget { (names : ProveNames) (folds : Bool) (number : List ℕ)
         → IsPlain number → writes_budget number ≡ true
         → AsksFor (codes "prove" ∷ with_fold folds

@@ -1,4 +1,5 @@
 use Rattle.std.proofs.Common.{◌∙◌, refl, subst, sym}
+use Rattle.puz_goal.specs.declared.goals.Goal.TheVariants.{First}
 use Rattle.pdb_verdict.specs.Replay.{IsSolvedPuzzle}
 use Rattle.pdb_checker.proofs.AnswerLemmas.{replay_yes}
 use Rattle.pdb_checker.proofs.pdb_checker_replay.Goals as goal
@@ -6,7 +7,7 @@ use Rattle.pdb_checker.proofs.pdb_checker_replay.Goals as goal
 -- a yes tells how many moves solve the board
 pub returns-clause-yes : goal.returns-clause-yes
 returns-clause-yes c = λ is.
-    subst (IsSolvedPuzzle c.args.puzzle.now) (sym c.of.ensures.count)
+    subst (IsSolvedPuzzle First c.args.puzzle.now) (sym c.of.ensures.count)
     (replay_yes c.args.puzzle.now c.verify_puzzle-found.result c.verify_puzzle-found.ensures.exact (sym c.of.ensures.status ∙ is))
 
 -- what is found is told

@@ -1,4 +1,4 @@
-use Rattle.std.proofs.Common.{◌≡◌, ◌∷◌, ◌++◌, None, Option, Some, ap, append_assoc, codes, lit<, ◌∙◌}
+use Rattle.std.proofs.Common.{◌≡◌, ◌∷◌, ◌++◌, None, Option, Some, ap, lit<, ◌∙◌}
 use Rattle.std.proofs.lemmas.Str.Pattern.{strip_prefix_char}
 use Rattle.std.specs.Prelude.{MatchOption}
 use Rattle.claim_text.specs.Lines.{asks_words, claim_words, numbers}
@@ -16,10 +16,7 @@ unreachable-requires c =
     let claim = c.args.claim.now in
     let words = claim_words (claim_shown claim) in
     let asks = asks_words (asks_shown claim.asks) in
-    let front = spaced_front claim.board (asks ++ codes "\n") c.side-side.ensures.board in
-    let line =
-    c.as_str.ensures.value ∙ c.with_claim-spaced.ensures ∙ ap (λ start. start ++ words ++ codes "\n") c.new.ensures
-    ∙ append_assoc (numbers claim.board) asks (codes "\n") ∙
-    front.1 in
+    let front = spaced_front claim.board asks c.side-side.ensures.board in
+    let line = c.as_str.ensures.value ∙ c.with_claim-spaced.ensures.bytes ∙ ap (λ start. start ++ words) c.new.ensures ∙ front.1 in
     where_none c.strip_prefix.result (λ x. c.as_str.result.now ≡ 32 ∷ x.now) c.in_default.is
     (strip_prefix_char 32 c.as_str.result.now c.strip_prefix.result c.strip_prefix.ensures.cases (lit< tt)) front.0 line

@@ -12,7 +12,7 @@ use Rattle.claim_text.proofs.told_parts.told_index.Goals as goal
 pub returns-in_err-index-clause-none : goal.returns-in_err-index-clause-none
 returns-in_err-index-clause-none c =
     IfNone-always c.from_residual-in_err-index.result
-    (λ i below. no_index c.args.line.now c.in_ok-words.words.now (part_at c.args.count i) c.args.bound c.args.board.now
+    (λ i below. no_index c.args.goal c.args.line.now c.in_ok-words.words.now (part_at c.args.count i) c.args.bound c.args.board.now
     (c.in_ok-words.ensures.cases.1 ∙ ap (λ front. drop (length front) c.args.line.now) c.as_slice.ensures) c.in_err-index.ensures.none)
 
 -- a line without a numeral before the slash is the line of no part
@@ -21,7 +21,7 @@ returns-in_err-index-2-clause-none c =
     IfNone-always c.from_residual-in_err-index-2.result
     (λ i below is.
     let few = c.requires.few in
-    let index = index_of c.args.line.now c.in_ok-words.words.now c.in_ok-index.index.now _ (part_at c.args.count i) c.args.bound c.args.board.now
+    let index = index_of c.args.goal c.args.line.now c.in_ok-words.words.now c.in_ok-index.index.now _ (part_at c.args.count i) c.args.bound c.args.board.now
     (c.in_ok-words.ensures.cases.1 ∙ ap (λ front. drop (length front) c.args.line.now) c.as_slice.ensures) c.in_ok-index.ensures.some is in
     c.in_err-index-2.ensures.none i (omega arith) index)
 
@@ -31,7 +31,7 @@ returns-in_err-part-clause-none c =
     IfNone-always c.from_residual-in_err-part.result
     (λ i below is.
     let few = c.requires.few in
-    let index = index_of c.args.line.now c.in_ok-words.words.now c.in_ok-index.index.now _ (part_at c.args.count i) c.args.bound c.args.board.now
+    let index = index_of c.args.goal c.args.line.now c.in_ok-words.words.now c.in_ok-index.index.now _ (part_at c.args.count i) c.args.bound c.args.board.now
     (c.in_ok-words.ensures.cases.1 ∙ ap (λ front. drop (length front) c.args.line.now) c.as_slice.ensures) c.in_ok-index.ensures.some is in
     let same = one_decimal c.in_ok-index-2.index i (omega arith) (omega arith) (sym c.in_ok-index-2.ensures.some ∙ index) in
     c.in_err-part.ensures (subst (λ k. IsPart (part_at c.args.count k)) (sym same) (part_of c.args.count i c.requires below)))
@@ -40,10 +40,10 @@ returns-in_err-part-clause-none c =
 pub returns-else-eq-clause-none : goal.returns-else-eq-clause-none
 returns-else-eq-clause-none c i below is =
     let few = c.requires.few in
-    let index = index_of c.args.line.now c.in_ok-words.words.now c.in_ok-index.index.now _ (part_at c.args.count i) c.args.bound c.args.board.now
+    let index = index_of c.args.goal c.args.line.now c.in_ok-words.words.now c.in_ok-index.index.now _ (part_at c.args.count i) c.args.bound c.args.board.now
     (c.in_ok-words.ensures.cases.1 ∙ ap (λ front. drop (length front) c.args.line.now) c.as_slice.ensures) c.in_ok-index.ensures.some is in
     let same = one_decimal c.in_ok-index-2.index i (omega arith) (omega arith) (sym c.in_ok-index-2.ensures.some ∙ index) in
-    let line : ShownPart → List ℕ = λ p. told_line (part_bounded p c.args.bound c.args.board.now) in
+    let line : ShownPart → List ℕ = λ p. told_line c.args.goal (part_bounded p c.args.bound c.args.board.now) in
     let told = c.as_bytes.ensures.value ∙ c.as_str.ensures.value ∙ c.part_line.ensures ∙ ap line c.in_ok-part.ensures.1
     ∙ ap (λ k. line (part_at c.args.count k)) same in
     not_differ c.as_bytes.result.now c.args.line.now (told ∙ sym is) c.if-eq.ensures
@@ -52,6 +52,6 @@ returns-else-eq-clause-none c i below is =
 pub returns-then-eq-clause-one : goal.returns-then-eq-clause-one
 returns-then-eq-clause-one c j below is =
     let few = c.requires.few in
-    let index = index_of c.args.line.now c.in_ok-words.words.now c.in_ok-index.index.now _ (part_at c.args.count j) c.args.bound c.args.board.now
+    let index = index_of c.args.goal c.args.line.now c.in_ok-words.words.now c.in_ok-index.index.now _ (part_at c.args.count j) c.args.bound c.args.board.now
     (c.in_ok-words.ensures.cases.1 ∙ ap (λ front. drop (length front) c.args.line.now) c.as_slice.ensures) c.in_ok-index.ensures.some is in
     sym (one_decimal c.in_ok-index-2.index j (omega arith) (omega arith) (sym c.in_ok-index-2.ensures.some ∙ index))

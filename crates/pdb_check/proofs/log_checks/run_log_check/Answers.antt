@@ -1,6 +1,5 @@
-use Rattle.std.proofs.Common.{Bool, ap₂}
+use Rattle.std.proofs.Common.{◌≡◌}
 use Rattle.pdb_request.specs.Asked.{log_check_shown}
-use Rattle.pdb_request.specs.declared.requests.LogClaim.{LogClaim}
 use Rattle.pdb_run.specs.Answers.{all_bytes}
 use Rattle.pdb_verdict.specs.Inputs.{log_claim}
 use Rattle.pdb_verdict.specs.Steps.{files_read}
@@ -13,7 +12,8 @@ pub returns-clause-ends : goal.returns-clause-ends
 returns-clause-ends g c =
     let check = c.args.check.now in
     let read = c.with_bytes-read in
-    let same = ap₂ (λ (it : LogClaim) (fold : Bool). log_claim it (record (files_read read.result) { fold = fold })) read.ensures.claim read.ensures.fold in
+    let same : log_claim read.result.claim (files_read read.result) ≡ log_given check.claim (log_check_shown check) (files_read read.result) =
+    λ i. log_claim (read.ensures.claim i) (record (files_read read.result) { fold = read.ensures.fold i; goal = read.ensures.goal i }) in
     c.conclude.ensures.ends (all_bytes c.in-Ok.inputs.items) _ c.in-Ok.ensures.read
     (check_answered (log_given check.claim (log_check_shown check)) (files_read read.result) _ c.answer_log_check-answered.result.answer
     read.ensures.inputs _ same c.answer_log_check-answered.ensures)

@@ -10,4 +10,4 @@ returns-clause-ends g c =
     let are = only_input c.in-Ok.inputs.items _ puzzle c.in-Ok.ensures.count (c.index.ensures) c.as_slice.ensures.value in
     let answer = c.verify_puzzle-answer.result in
     c.conclude.ensures.ends (all_bytes c.in-Ok.inputs.items) _ c.in-Ok.ensures.read
-    (_, (puzzle, are, record { answer = answer; is_result = c.verify_puzzle-answer.ensures.exact; told = refl }), c.told.ensures [] refl)
+    (_, (puzzle, are, record { answer = answer; is_result = c.verify_puzzle-answer.ensures.exact; told = refl }), c.told_for.ensures [] refl)

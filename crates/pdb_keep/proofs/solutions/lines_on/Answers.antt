@@ -1,21 +1,19 @@
-use Rattle.std.proofs.Common.{◌≡◌, ◌∙◌, List, ℕ, [], ◌∷◌, ◌++◌, ap, append_assoc, codes, false, length, sym}
-use Rattle.std.specs.Prelude.{◌==◌, decimal}
-use Rattle.pdb_verdict.specs.Lines.{counted}
-use Rattle.pdb_keep.specs.Solve.{letters_of, moves_line}
+use Rattle.std.proofs.Common.{◌≡◌, ◌∙◌, ◌++◌, List, ℕ, append_assoc, codes}
+use Rattle.std.specs.Prelude.{decimal}
+use Rattle.puz_goal.specs.Goals.{goal_words}
+use Rattle.puz_goal.specs.declared.goals.Goal.{Goal}
+use Rattle.pdb_verdict.specs.Lines.{counted_for}
+use Rattle.pdb_keep.specs.Solve.{letters_of, moves_line, moves_words}
 use Rattle.pdb_keep.proofs.solutions.lines_on.Goals as goal
 
--- the parts of the lines of an optimum with moves
-moves_parts : (letters : List ℕ) (n : ℕ) → (length letters == 0) ≡ false
-    → codes "moves " ++ (letters ++ (codes "\noptimal " ++ (decimal n ++ codes "\n")))
-    ≡ moves_line letters ++ counted (codes "optimal ") n
-moves_parts [] n some = cc
-moves_parts (letter ∷ letters) n some =
-    ap (λ (t : List ℕ). codes "moves " ++ t) (sym (append_assoc (letter ∷ letters) (codes "\n") _))
+-- both lines, one behind the other
+both : (goal : Goal) (letters : List ℕ) (n : ℕ)
+    → moves_words letters ++ goal_words goal ++ codes "\noptimal " ++ decimal n ++ goal_words goal ++ codes "\n"
+    ≡ moves_line goal letters ++ counted_for goal (codes "optimal ") n
+both goal letters n = simp append_assoc
 
--- where there are letters, they are in a line behind a word and a space, and their number in the next
-pub returns-else-is_empty : goal.returns-else-is_empty
-returns-else-is_empty c =
-    let some = rw c.letters_of-letters.ensures at (sym c.is_empty.ensures ∙ c.if-is_empty.false) in
-    c.lines-else-is_empty.ensures
-    ∙ rw (c.as_str.ensures.value, c.letters_of-letters.ensures, c.format-count.ensures.text)
-    (moves_parts (letters_of c.args.moves.now) c.args.count some)
+-- the letters, their number and the words of the goal make both lines
+pub returns : goal.returns
+returns c = c.with_end.ensures
+    ∙ rw (c.as_str.ensures.value, c.letters_of-letters.ensures, c.format.ensures.text, c.words.ensures.words)
+    (both c.args.goal (letters_of c.args.moves.now) c.args.count)

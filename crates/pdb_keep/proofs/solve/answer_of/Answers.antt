@@ -17,6 +17,6 @@ pub returns-in-Err : goal.returns-in-Err
 returns-in-Err c = λ fold budget text sets tables same came.
     let refused = c.in-Err.refused in
     let settled = c.in_ok-outcome.ensures.ok in
-    let cause = cause_settled (IsUnmade fold budget text sets tables) (TakesMemoryForBound text tables) refused
+    let cause = cause_settled (IsUnmade c.args.goal fold budget text sets tables) (TakesMemoryForBound text tables) refused
     (λ memory. settled.1 (c.in-Err.is ∙ ap (λ x. Err x) memory)) (rw (sym settled.0 ∙ c.in-Err.is) at came) in
     (_, record { outcome = unmade refused; is_outcome = cause; told = refl }, c.told.ensures tables same)

@@ -10,7 +10,7 @@ answer_of-requires g c =
     let asked = c.args.search.now in
     let spelt : Spells asked.board.items c.in-Ok.board = search (rules, c.read.ensures.ok) in
     let read = rw (c.as_slice-kept.ensures.value, c.given_up-given.ensures.all) at c.over_tables-digested.ensures.found in
-    made_moves asked.fold asked.budget asked.board.items _ _ c.over_tables-digested.result.1 (read.2.1 _ _ _ _ spelt read.1)
+    made_moves asked.goal asked.fold asked.budget asked.board.items _ _ c.over_tables-digested.result.1 (read.2.1 _ _ _ _ spelt read.1)
 
 -- for a text that spells a board, what is answered is what the search over the tables came to
 pub returns-in-Ok : goal.returns-in-Ok

@@ -7,4 +7,4 @@ pub returns-clause-ends : goal.returns-clause-ends
 returns-clause-ends g c =
     let read = c.with_bytes-read in
     let says = search_answered _ read.result c.answer_search-answered.result.answer read.ensures.inputs c.answer_search-answered.ensures in
-    c.keep_and_conclude.ensures.ends (all_bytes c.in-Ok.inputs.items) _ c.in-Ok.ensures.tried (rw (read.ensures.fold, read.ensures.budget) at says)
+    c.keep_and_conclude.ensures.ends (all_bytes c.in-Ok.inputs.items) _ c.in-Ok.ensures.tried (rw (read.ensures.fold, read.ensures.budget, read.ensures.goal) at says)

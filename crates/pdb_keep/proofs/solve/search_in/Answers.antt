@@ -1,4 +1,5 @@
 use Rattle.std.proofs.Common.{◌≡◌, Err, rules}
+use Rattle.puz_goal.specs.Turning.{board_for}
 use Rattle.pdb_keep.specs.Solve.{AreForBoard}
 use Rattle.pdb_keep.proofs.MakerLemmas.{no_bundle, search_came}
 use Rattle.pdb_keep.proofs.solve.search_in.Goals as goal
@@ -8,7 +9,7 @@ pub returns-in_err-bundle : goal.returns-in_err-bundle
 returns-in_err-bundle g c = λ fold text sets tables spelt read.
     let why = c.in_err-bundle.field-0.0 in
     let refused : c.from_residual.result ≡ Err why = search (rules, c.from_residual.ensures) in
-    rw refused (no_bundle fold c.args.budget text sets tables c.args.board.now spelt why (rw c.in_err-bundle.was at read))
+    rw refused (no_bundle c.args.goal fold c.args.budget text sets tables c.args.board.now spelt why (rw c.in_err-bundle.was at read))
 
 -- where the bundle has another side than the board, L4 is what the search comes to
 pub returns-then-ne : goal.returns-then-ne
@@ -23,7 +24,7 @@ returns-then-ne g c = λ fold text sets tables spelt read.
 pub returns : goal.returns
 returns g c = λ fold text sets tables spelt read.
     let is_bundle = rw c.in_ok-bundle.was at read in
-    let are_for : AreForBoard fold c.args.board.now sets tables =
+    let are_for : AreForBoard fold (board_for c.args.goal c.args.board.now) sets tables =
     record { bundle = c.in_ok-bundle.bundle; is_bundle = is_bundle; one_side = search rules } in
-    search_came fold c.args.budget text sets tables c.args.board.now spelt are_for c.search_over.result
+    search_came c.args.goal fold c.args.budget text sets tables c.args.board.now spelt are_for c.search_over.result
     c.search_over.ensures.given_up (c.search_over.ensures.made fold text sets tables spelt is_bundle)

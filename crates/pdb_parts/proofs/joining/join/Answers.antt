@@ -13,5 +13,5 @@ returns-in_ok-text-in-Against c = record {
   first = rw c.in-Against.is at c.in_ok-told.ensures;
   text = c.in_ok-text-in-Against.ensures;
   is_yes = refl;
-  beside = c.new.ensures;
+  beside = c.new.ensures.bytes;
 }

@@ -1,11 +1,12 @@
-use Rattle.std.proofs.Common.{◌≡◌, ◌∙◌, ◌&&◌, Bool, List, None, ap, false, filter, flat_map, get_or, length, not, sym, true, ℕ}
+use Rattle.std.proofs.Common.{◌≡◌, ◌∙◌, Bool, List, None, ap, false, filter, flat_map, get_or, not, sym, true, ℕ}
 use Rattle.std.proofs.lemmas.Bool.{cond-false, cond-true}
 use Rattle.std.specs.List.{list_all, range_with_len}
+use Rattle.pdb_request.specs.Asked.{file_names}
 use Rattle.pdb_run.specs.Answers.{all_bytes}
 use Rattle.pdb_run.specs.Commands.{Reply}
 use Rattle.pdb_run.specs.Writing.{reply_text}
 use Rattle.byte_io.specs.Shelf.{Bytes}
-use Rattle.pdb_parts.specs.Beside.{counts_text, spent_parts}
+use Rattle.pdb_parts.specs.Beside.{counts_text, first_told}
 use Rattle.pdb_parts.specs.Joining.{ShownBoundInParts, are_told, bound_reply, joined_reply, open_claim, open_reply, whole_lines}
 use Rattle.pdb_parts.specs.Steps.{MarksLines}
 use Rattle.pdb_parts.specs.Stored.{shown}
@@ -28,7 +29,8 @@ module _ (texts : List Bytes) (asked : ShownBoundInParts) (marks : Marks) (is : 
 -- where each part has a mark, the bound is said
 pub returns-then-are_marked : goal.returns-then-are_marked
 returns-then-are_marked c =
-    let texts = all_bytes c.args.texts.now in
+    let names = file_names c.args.files.names.now in
+    let texts = all_bytes c.args.files.texts.now in
     let asked = shown c.args.asked.now in
     let is = c.requires.marks in
     let all = ap (list_all (λ mark. mark)) (sym c.as_slice-holds.ensures.value) ∙ sym c.are_marked.ensures ∙ c.if-are_marked.true in
@@ -39,15 +41,16 @@ returns-then-are_marked c =
       first = is.none;
       text = c.in_ok-text.ensures ∙ sym (ap reply_text joined);
       is_yes = sym (ap (λ (r : Reply). r.is_yes) joined);
-      beside = c.counts_text-beside.ensures
-          ∙ (λ i. counts_text (is.counts.skipped i) (is.counts.all i)
+      beside = c.in_ok-beside.ensures
+          ∙ (λ i. counts_text (is.counts.skipped i) (is.counts.all i) (first_told asked names texts)
           ((spent ∙ ended_open (flat_map whole_lines texts) asked c.args.marks.now.holds.items c.args.marks.now.spent.items is.are) i) asked.count);
     }
 
 -- where some part has none, the open claims are
 pub returns : goal.returns
 returns c =
-    let texts = all_bytes c.args.texts.now in
+    let names = file_names c.args.files.names.now in
+    let texts = all_bytes c.args.files.texts.now in
     let asked = shown c.args.asked.now in
     let is = c.requires.marks in
     let some = ap (list_all (λ mark. mark)) (sym c.as_slice-holds.ensures.value) ∙ sym c.are_marked.ensures ∙ c.if-are_marked.false in
@@ -60,7 +63,7 @@ returns c =
       text = c.in_ok-text-2.ensures ∙ ap text c.as_slice-holds.ensures.value
           ∙ left_open (flat_map whole_lines texts) asked c.args.marks.now.holds.items c.args.marks.now.spent.items is.are ∙ sym (ap reply_text joined);
       is_yes = sym (ap (λ (r : Reply). r.is_yes) joined);
-      beside = c.counts_text-beside.ensures
-          ∙ (λ i. counts_text (is.counts.skipped i) (is.counts.all i)
+      beside = c.in_ok-beside.ensures
+          ∙ (λ i. counts_text (is.counts.skipped i) (is.counts.all i) (first_told asked names texts)
           ((spent ∙ ended_open (flat_map whole_lines texts) asked c.args.marks.now.holds.items c.args.marks.now.spent.items is.are) i) asked.count);
     }

@@ -42,7 +42,7 @@ returns-in-Ok-join-clause-ends g c =
     let is = c.in-Ok-read.ensures.exact ∙ ap board_of_text c.as_slice.ensures.value in
     ends_joined (parts_shown c.args.asked.now) c.requires {mid = g.I.Io.world c.read_inputs.new.io} read.result.board.items
     (all_bytes read.result.answers.items) c.in-Ok-read.board c.in-Ok.ensures.read read.ensures.inputs is c.in-Ok-join.joined
-    (rw (read.ensures.bound, read.ensures.count, c.as_slice-2.ensures.value) at c.in-Ok-join.ensures) c.say_joined.ensures.said
+    (rw (read.ensures.bound, read.ensures.count, read.ensures.goal, c.as_slice-2.ensures.value, c.as_slice-3.ensures.value) at c.in-Ok-join.ensures) c.say_joined.ensures.said
 
 -- where the parts are joined, the errors get what is told beside it
 pub returns-in-Ok-join-clause-told : goal.returns-in-Ok-join-clause-told
@@ -51,7 +51,7 @@ returns-in-Ok-join-clause-told g c =
     let is = c.in-Ok-read.ensures.exact ∙ ap board_of_text c.as_slice.ensures.value in
     tells_joined (parts_shown c.args.asked.now) {mid = g.I.Io.world c.read_inputs.new.io} read.result.board.items
     (all_bytes read.result.answers.items) c.in-Ok-read.board c.in-Ok.ensures.read read.ensures.inputs is c.in-Ok-join.joined
-    (rw (read.ensures.bound, read.ensures.count, c.as_slice-2.ensures.value) at c.in-Ok-join.ensures) _ _
+    (rw (read.ensures.bound, read.ensures.count, read.ensures.goal, c.as_slice-2.ensures.value, c.as_slice-3.ensures.value) at c.in-Ok-join.ensures) _ _
     c.say_joined.result.status c.say_joined.ensures.told
 
 -- where the text spells a board, the run ends with what comes of its parts

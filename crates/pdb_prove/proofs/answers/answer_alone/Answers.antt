@@ -13,7 +13,7 @@ returns-in-Spent c =
 pub returns-in_default : goal.returns-in_default
 returns-in_default c =
     let asked = rw c.in-Ok-Shortest.field-0-is at c.in-Ok-Shortest.ensures.ok in
-    asked _ _ _ (c.found_shortest.ensures _ _ (rw c.requires.board at c.shortest_alone.ensures))
+    let best = c.found_shortest.ensures _ _ c.shortest_alone.ensures in asked _ _ _ (rw c.requires.board at best)
 
 -- what it finds by a search for a solution of fewer moves is right for the claim
 pub returns-in-Ok-Below : goal.returns-in-Ok-Below
@@ -23,4 +23,4 @@ returns-in-Ok-Below c =
 
 -- what it finds by a search for a shortest solution is found of the claim's board
 pub found_shortest-requires : goal.found_shortest-requires
-found_shortest-requires c = (_, _, rw c.requires.board at c.shortest_alone.ensures)
+found_shortest-requires c = (_, _, c.shortest_alone.ensures)

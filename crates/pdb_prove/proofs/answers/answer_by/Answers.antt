@@ -4,7 +4,7 @@ use Rattle.pdb_prove.proofs.answers.answer_by.Goals as goal
 pub returns-in-Ok-Shortest : goal.returns-in-Ok-Shortest
 returns-in-Ok-Shortest g c =
     let asked = rw c.in-Ok-Shortest.field-0-is at c.in-Ok-Shortest.ensures.ok in
-    asked _ _ _ (c.found_shortest.ensures _ _ (rw c.requires.board at c.shortest.ensures))
+    let best = c.found_shortest.ensures _ _ c.shortest.ensures in asked _ _ _ (rw c.requires.board at best)
 
 -- what they find by a search for a solution of fewer moves is right for the claim
 pub returns-in-Ok-Below : goal.returns-in-Ok-Below
@@ -14,4 +14,4 @@ returns-in-Ok-Below g c =
 
 -- what they find by a search for a shortest solution is found of the claim's board
 pub found_shortest-requires : goal.found_shortest-requires
-found_shortest-requires g c = (_, _, rw c.requires.board at c.shortest.ensures)
+found_shortest-requires g c = (_, _, c.shortest.ensures)

@@ -6,7 +6,7 @@ use Rattle.pdb_prove.proofs.batches.answer_all.Goals as goal
 -- at first nothing has changed
 pub loop-asked-init : goal.loop-asked-init
 loop-asked-init g c = record {
-  same = record { claims = refl; starts = refl; reversals = refl; budget = refl };
+  same = record { claims = refl; starts = refl; reversals = refl; goal = refl; budget = refl };
   sets = refl;
   unprepared = c.requires.unprepared;
   goes_on = λ none. none;

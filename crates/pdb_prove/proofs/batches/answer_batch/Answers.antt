@@ -9,7 +9,7 @@ use Rattle.pdb_prove.proofs.batches.answer_batch.Goals as goal
 pub loop-place-init : goal.loop-place-init
 loop-place-init g c = record {
   next = omega arith;
-  same = record { claims = refl; starts = refl; reversals = refl; budget = refl };
+  same = record { claims = refl; starts = refl; reversals = refl; goal = refl; budget = refl };
   sets = refl;
   unprepared = c.requires.unprepared;
   goes_on = λ none. none;
@@ -76,7 +76,7 @@ loop-place-preserved g c =
     let far = c.loop-place.invariant in
     let v = bundle_of c.loop-place.help.sets in
     let at = here_at v c.loop-place.asked c.posed.result.claim.now c.in-Some.found c.posed.ensures.claim
-    (rw c.posed.ensures.budget at c.in-Some.ensures.found) in
+    (rw (c.posed.ensures.budget, c.posed.ensures.goal) at c.in-Some.ensures.found) in
     record {
       next = (let more = c.in_ok-tell-in-Some.ensures.next in omega (arith, more, far.next));
       same = same_more _ _ _ far.same c.tell-in-Some.ensures.same;

@@ -46,6 +46,10 @@ has_begun g c {old} are same =
 budget_is : (g : Over) (c : In-Ok g) → c.in-Ok.ready.asked.budget ≡ budget_of (prove_shown c.args.command.now.0.now).budget
 budget_is g c = (rw c.in-Ok.ensures.ready at c.of-ready.ensures.budget) ∙ c.budget_of.ensures
 
+-- and so is its goal
+goal_is : (g : Over) (c : In-Ok g) → c.in-Ok.ready.asked.goal ≡ (prove_shown c.args.command.now.0.now).goal
+goal_is g c = rw c.in-Ok.ensures.ready at c.of-ready.ensures.goal
+
 -- its claims are those that were read, and have few letters
 have_few : (g : Over) (c : In-Ok g) → All HasFewLetters (claims_of c.in-Ok.ready.asked)
 have_few g c =
@@ -65,7 +69,7 @@ pub returns-in-Err-answer_over_tables-clause-ends : goal.returns-in-Err-answer_o
 returns-in-Err-answer_over_tables-clause-ends g c = λ old are same.
     let at = (goal.at.returns-in-Err-answer_over_tables-clause-ends g c).In-Ok in
     let none = rw c.in-Ok.ensures.ready at c.of-ready.ensures.none in
-    rw c.by.ensures.status (ends_cut _ c.answer_over_tables.new.asked (has_begun g at are same) c.answer_over_tables.ensures.same (budget_is g at)
+    rw c.by.ensures.status (ends_cut _ c.answer_over_tables.new.asked (has_begun g at are same) c.answer_over_tables.ensures.same (goal_is g at) (budget_is g at)
     (c.in-Err-answer_over_tables.ensures.told _ (none _ _)))
 
 -- where no words are wanted, the run ends with the answers to all claims
@@ -75,8 +79,8 @@ returns-in_default-clause-ends g c = λ old are same.
     let none = rw c.in-Ok.ensures.ready at c.of-ready.ensures.none in
     let first = c.answer_over_tables.ensures.same in
     let done = rw c.in_default.is at c.in-Ok-answer_over_tables.ensures.wanted in
-    ends_answered _ c.answer_over_tables.new.asked (has_begun g at are same) first (budget_is g at) _ (rw first.claims done)
-    (c.in-Ok-answer_over_tables.ensures.told _ (none _ _)) c.answered.ensures.status
+    ends_answered _ c.answer_over_tables.new.asked (has_begun g at are same) first (goal_is g at) (budget_is g at) _ (rw first.claims done)
+    (c.in-Ok-answer_over_tables.ensures.told _ (none _ _)) c.told_end.ensures.status
 
 -- words are wanted of the full tables of the files, whose bytes are there, and there is all memory for them
 wanted : (g : Over) (c : In-Some g)
@@ -127,8 +131,8 @@ returns-in-Ok-answer_all-clause-ends g c = λ old are same.
     let whole = same_more _ _ _ c.answer_over_tables.ensures.same c.answer_all.ensures.same in
     let next = rw (leads g at.After-over_words-help (wanted g at.In-Some).1) at c.in-Ok-answer_all.ensures.told in
     let done = rw (c.answer_all.ensures.goes_on c.over_words-help.ensures.goes_on, ← c.answer_all.ensures.same.claims) at c.in-Ok-answer_all.ensures.wanted in
-    ends_answered _ c.answer_all.new.asked (has_begun g at.In-Ok are same) whole (budget_is g at.In-Ok) _ done
-    (next _ (c.in-Ok-answer_over_tables.ensures.told _ (none _ _))) c.answered-in-Ok-answer_all.ensures.status
+    ends_answered _ c.answer_all.new.asked (has_begun g at.In-Ok are same) whole (goal_is g at.In-Ok) (budget_is g at.In-Ok) _ done
+    (next _ (c.in-Ok-answer_over_tables.ensures.told _ (none _ _))) c.told_end-in-Ok-answer_all.ensures.status
 
 -- where they aren't, it is cut short
 pub returns-clause-ends : goal.returns-clause-ends
@@ -137,5 +141,5 @@ returns-clause-ends g c = λ old are same.
     let none = rw c.in-Ok.ensures.ready at c.of-ready.ensures.none in
     let whole = same_more _ _ _ c.answer_over_tables.ensures.same c.answer_all.ensures.same in
     let next = rw (leads g at.After-over_words-help (wanted g at.In-Some).1) at c.in-Err-answer_all.ensures.told in
-    rw c.by-in-Err-answer_all.ensures.status (ends_cut _ c.answer_all.new.asked (has_begun g at.In-Ok are same) whole (budget_is g at.In-Ok)
+    rw c.by-in-Err-answer_all.ensures.status (ends_cut _ c.answer_all.new.asked (has_begun g at.In-Ok are same) whole (goal_is g at.In-Ok) (budget_is g at.In-Ok)
     (next _ (c.in-Ok-answer_over_tables.ensures.told _ (none _ _))))

@@ -30,4 +30,4 @@ returns-in-Ok-read_claims-clause-ends g c =
 pub returns-clause-ends : goal.returns-clause-ends
 returns-clause-ends g c =
     let are = rw (order g (goal.at.returns-clause-ends g c).After-with_bytes-files) at c.in-Ok.ensures.read in
-    c.tell_fault.ensures.ends (files_of c.with_bytes-files.result) _ are (search rules) (search rules)
+    rw c.telling.ensures.status (c.tell_fault.ensures.ends (files_of c.with_bytes-files.result) _ are (search rules) (search rules))

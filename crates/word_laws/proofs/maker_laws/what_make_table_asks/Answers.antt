@@ -97,7 +97,7 @@ returns c = record {
   other_side = λ words is. either_wrong _ (mask words)
       ((alone words).0 ∙ ap (λ (s : Bool). workers_last true s (mask words)) (sides.taken words.side words.plain_side ∙ is));
   other_mask = λ words is. some_wrong _ _ ((alone words).0 ∙ ap (workers_last true (side words)) is);
-  no_name = λ side mask s m. nameless _ _ _ (comes is_command (plain side s ∷ plain mask m ∷ []) refl refl refl).0;
+  no_name = λ side mask s m. nameless _ (sides.takes side) (writes_mask mask) (comes is_command (plain side s ∷ plain mask m ∷ []) refl refl refl).0;
   workers = λ words number n is writes. asked words (codes "--workers" ∷ number ∷ pattern_words words) workers_first
       (first words number n) refl writes (workers.taken number n ∙ is) (workers.read number n is);
   other_workers = λ words number n is. either_wrong _ (mask words)

@@ -10,8 +10,8 @@ loop-claim-preserved c =
     let far = c.loop-claim.invariant in
     rw c.in_ok-push.ensures.items (record {
       size = length-append c.loop-claim.starts.items (c.of.result ∷ []) ∙ ap (λ n. n + 1) far.size;
-      each = posed_more _ c.as_slice-claim-items.result.now c.loop-claim.starts.items c.claim-item.result c.of.result c.loop-claim.claim-index
-          c.loop-claim-test.true c.claim-item.is far.size far.each (record { is_start = c.of.ensures.start; board = c.of.ensures.board });
+      each = posed_more c.args.goal _ c.as_slice-claim-items.result.now c.loop-claim.starts.items c.claim-item.result c.of.result c.loop-claim.claim-index
+          c.loop-claim-test.true c.claim-item.is far.size far.each (record { is_start = c.of.ensures.start; board = c.of.ensures.board ∙ c.board_for.ensures.value });
     })
 
 -- all claims have their starts, and the automaton of reversals has the side of the bundle

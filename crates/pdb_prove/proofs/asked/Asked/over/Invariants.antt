@@ -9,5 +9,5 @@ abbrev pub invariant-loop-claim : goal.invariant-loop-claim
 invariant-loop-claim l = record {
   size : length l.starts.items ≡ l.claim-index;
   each : (number : ℕ) (c : Claim) (d : Start) → number < l.claim-index
-      → IsPosed l.bundle (get_or l.claim-items number c) (get_or l.starts.items number d);
+      → IsPosed l.goal l.bundle (get_or l.claim-items number c) (get_or l.starts.items number d);
 }

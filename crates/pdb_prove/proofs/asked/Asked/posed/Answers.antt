@@ -10,8 +10,8 @@ pub returns-clause-over : goal.returns-clause-over
 returns-clause-over c = λ v over.
     let claim = c.index.result.now in
     let start = c.index-2.result.now in (
-      subst (λ (x : Claim). IsPosed v x start) (sym c.index.ensures)
-          (subst (λ (x : Start). IsPosed v (get_or c.args.self.now.claims.items c.args.number claim) x) (sym c.index-2.ensures) (over.each c.args.number claim start c.requires.number)),
+      subst (λ (x : Claim). IsPosed c.args.self.now.goal v x start) (sym c.index.ensures)
+          (subst (λ (x : Start). IsPosed c.args.self.now.goal v (get_or c.args.self.now.claims.items c.args.number claim) x) (sym c.index-2.ensures) (over.each c.args.number claim start c.requires.number)),
       over.prunes,
     )
 

@@ -1,0 +1,4 @@
+pub mod LetterLemmas
+pub mod SolvingLemmas
+mod ReplayLemmas
+pub mod TurnLemmas
