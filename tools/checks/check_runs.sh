@@ -647,16 +647,6 @@ proves_each_way false_claims one_set F12 1 'refused O2 by ULDRUL of 3 2 1 0 : 7'
     'refused O2 by L of 1 0 2 3 ; DULRL' 'refused O2 by L of 1 0 2 3 : 2' 'refused M2 at step 0 of 3 2 1 0 ; R' \
     'refused M2 at step 2 of 3 2 1 0 ; ULU' 'refused M4 of 3 2 1 0 ; U' 'refused M4 of 3 2 1 0 ;' 'refused K2 of 0 1 3 2' \
     'refused K2 of 0 1 3 2 : 0' 'refused M4 of 0 1 3 2 ; R'
-# The same with the blank last, of the boards and moves turned by half a turn.
-printf '%s\n' '0 3 2 1' '0 3 2 1 : 6' '0 3 2 1;DR ULDR' '1 2 3 0' '1 2 3 0 : 0' >true_claims_last
-proves true_claims_last one_set F12 0 'optimal 6 of 0 3 2 1 ; DRULDR with the blank last' 'bound 6 of 0 3 2 1 with the blank last' \
-    'optimal 6 of 0 3 2 1 ; DRULDR with the blank last' 'optimal 0 of 1 2 3 0 ; with the blank last' \
-    'bound 0 of 1 2 3 0 with the blank last' : --goal last
-printf '%s\n' '0 3 2 1 : 7' '0 3 2 1 ; DRULDRLR' '1 2 0 3 ; LR' '0 3 2 1 ; D' '0 1 2 3' '0 3 2 1 : 6' >false_claims_last
-proves false_claims_last one_set F12 1 'refused O2 by DRULDR of 0 3 2 1 : 7 with the blank last' \
-    'refused O2 by DRULDR of 0 3 2 1 ; DRULDRLR with the blank last' 'refused M2 at step 0 of 1 2 0 3 ; LR with the blank last' \
-    'refused M4 of 0 3 2 1 ; D with the blank last' 'refused K2 of 0 1 2 3 with the blank last' \
-    'bound 6 of 0 3 2 1 with the blank last' : --goal last --workers 2
 # No board is expanded for a claim of which the sets say enough, or whose board is the goal board.
 printf '%s\n' '3 2 1 0' '3 2 1 0 : 6' '3 2 1 0 ; LURDLU' '0 1 2 3' '1 0 2 3 : 1' '3 2 1 0 : 4' >claims_of_few_boards
 for words in '--budget 1' '--budget 1 --fold' '--workers 7 --budget=1'; do

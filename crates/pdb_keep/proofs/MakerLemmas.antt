@@ -7,6 +7,9 @@ use Rattle.puz_board.specs.BoardTexts.{Spells}
 use Rattle.puz_board.specs.Masks.{numbers_of}
 use Rattle.puz_board.specs.MovesTexts.{moves_of}
 use Rattle.puz_goal.specs.declared.goals.Goal.{Goal}
+use Rattle.puz_goal.specs.declared.goals.Goal.TheVariants.{First, Last}
+use Rattle.puz_goal.proofs.TurnLemmas.{side_of-turned}
+use Rattle.puz_board.specs.Boards.{IsBoard, side_of}
 use Rattle.puz_goal.specs.Goals.{SolvesFor}
 use Rattle.puz_goal.specs.Turning.{board_for}
 use Rattle.puz_board.specs.Paths.{Leads}
@@ -37,6 +40,11 @@ use Rattle.pdb_keep.specs.Solve.{AreForBoard, IsSolveReply, IsUnmade, SolveMakes
 use Rattle.pdb_keep.specs.Steps.{CameTo, HasItsMoves, IsCauseForSearch, IsGivenUp, IsSearchAnswer, search_read}
 use Rattle.pdb_keep.specs.declared.solutions.TheConstants.{MOST_LETTERS}
 use Rattle.pdb_keep.specs.declared.made.Made.{Made}
+
+-- a turned board has the side of the board
+pub side_for : (goal : Goal) (b : List ℕ) → IsBoard b → side_of (board_for goal b) ≡ side_of b
+side_for First b is = refl
+side_for Last b is = side_of-turned b is
 
 -- ---- tables
 

@@ -206,11 +206,13 @@ fn search_over<H: Threads + Wait + Sync, G: Gate + Sync>(
     let mut found = found;
     goal.turn_moves(found.moves.as_mut_slice());
     let (moves, log) = (found.moves.as_slice(), found.log.as_slice());
-    let said = SaidMoves { goal, board, moves };
     let check = || -> Result<u8, Fault>
         ensures { let log = log.entry.now in
             IsOptimumOver goal bundle.entry.now board.entry.now moves.entry.now log result }
-    { optimum_over(bundle, said, log, workers) };
+    {
+        let said = SaidMoves { goal, board, moves };
+        optimum_over(bundle, said, log, workers)
+    };
     let (digest, answer) = beside(workers, &[], Some(log), check);
     let Ok(count) = settled(answer)? else {
         return Ok(None);

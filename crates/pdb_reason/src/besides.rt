@@ -25,26 +25,24 @@ impl Display for Summary {
         let claims = tally.claims;
         let plural = if claims == 1 { "" } else { "s" };
         write!(f, "pdb_cli: {claims} claim{plural}: ")?;
-        write_kind(f, 0, tally.optima, "optimal")?;
-        let before = tally.optima;
-        write_kind(f, before, tally.bounds, "bound")?;
-        let before = before.saturating_add(tally.bounds);
-        write_kind(f, before, tally.parts, "part")?;
-        let before = before.saturating_add(tally.parts);
-        write_kind(f, before, tally.refused, "refused")
+        let comma = write_kind(f, "", tally.optima, "optimal")?;
+        let comma = write_kind(f, comma, tally.bounds, "bound")?;
+        let comma = write_kind(f, comma, tally.parts, "part")?;
+        write_kind(f, comma, tally.refused, "refused")?;
+        Ok(())
     }
 }
 
-/// Writes how many claims were answered so, where any were, behind those before.
-fn write_kind<W: fmt::Write>(
+/// Writes how many answers of a kind there are, if any, behind what parts them from those before; and returns what parts the next.
+fn write_kind<'k, W: fmt::Write>(
     f: &mut Formatter<W>,
-    before: usize,
+    comma: &'k str,
     count: usize,
-    kind: &str,
-) -> fmt::Result {
+    kind: &'k str,
+) -> Result<&'k str, fmt::Error> {
     if count == 0 {
-        return Ok(());
+        return Ok(comma);
     }
-    let comma = if before == 0 { "" } else { ", " };
-    write!(f, "{comma}{count} {kind}")
+    write!(f, "{comma}{count} {kind}")?;
+    Ok(", ")
 }
