@@ -75,6 +75,7 @@ own_mirror 4 310
 END
 # An entry that is too small, whose number is below that of the table, and one that is too great.
 cp F1 F1_too_small && change F1_too_small 20 00
+cp F1 kept && chmod a-w kept
 cp F123 F123_too_great && change F123_too_great 34 08
 cp tiles_1_to_5 wrong && change wrong 3144979 07
 truncate -s 65537 long_text
@@ -175,7 +176,8 @@ fault write F123|F123: a table is there, or what can't be read, so no log takes 
 fault write leaf|leaf: a log is there, or what can't be read, so no table takes its place: `--replace` allows that|make-table 2 1 leaf
 fault write F123|F123: a table of another side or mask is there, so it is not replaced: `--replace` allows that|make-table 2 1 F123
 fault write board|board: what is there is neither a table nor a log, or can't be read, so it is not replaced: `--replace` allows that|make-table 2 1 board
-fault write F12|F12: it is read-only to its owner, so it is not replaced: `chmod u+w` allows that|make-table 2 6 F12 --replace
+fault write solved|solved: what is there is neither a table nor a log, or can't be read, so it is not replaced: `--replace` allows that|solve board one_set solved F12
+fault write kept|kept: it is read-only to its owner, so it is not replaced: `chmod u+w` allows that|make-table 2 2 kept --replace
 END
 
 # Where a line that is no claim goes wrong, and what is wrong there.

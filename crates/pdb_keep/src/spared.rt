@@ -21,10 +21,7 @@ pub(crate) fn table_front(side: u8, mask: u32) -> [u8; TABLE_FRONT]
 }
 
 /// How the files begin that are replaced, unless any may be: in these ways.
-pub(crate) fn replaced_unless<'f>(
-    replace: bool,
-    fronts: &'f [&'f [u8]],
-) -> Option<&'f [&'f [u8]]>
+pub(crate) fn replaced_unless<'f>(replace: bool, fronts: &'f [&'f [u8]]) -> Option<&'f [&'f [u8]]>
     ensures { option_map (λ fronts. map (λ front. front.now) fronts.now) result
         ≡ replaced_unless replace (map (λ front. front.now) fronts.now) }
 {

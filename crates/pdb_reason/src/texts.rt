@@ -35,7 +35,8 @@ pub(crate) const OUT_IS_ANOTHER_TABLE: &str =
     "a table of another side or mask is there, so it is not replaced: `--replace` allows that";
 
 /// What is said where a table or a log would take the place of what is neither.
-pub(crate) const OUT_IS_NEITHER: &str = "what is there is neither a table nor a log, or can't be read, so it is not replaced: `--replace` allows that";
+pub(crate) const OUT_IS_NEITHER: &str =
+    "what is there is neither a table nor a log, or can't be read, so it is not replaced: `--replace` allows that";
 
 /// What is said where the owner of what is there has made it read-only.
 pub(crate) const OUT_IS_READ_ONLY: &str =
