@@ -9,7 +9,7 @@
 log=$kept/build.log
 # What the kit must have said last of the program, word by word. Of a library it is the same, but for how many functions it has and
 # how many of them may wait, and without the words from `axioms` to `main`.
-verdict='logic=proved functions=11 axioms=43 target=x86_64-unknown-linux-gnu cpu=x86-64-v2 threads=_exit,abort,free,malloc,pthread_attr_destroy,pthread_attr_init,pthread_attr_setguardsize,pthread_attr_setstacksize,pthread_create,pthread_detach,pthread_join,pthread_self,sched_yield,syscall main=Threads+Wait may-wait=1 sum=dac8208d650f15bf native=nat,char,string logic-built=trusted libraries-built=trusted statements=trusted'
+verdict='logic=proved functions=13 axioms=43 target=x86_64-unknown-linux-gnu cpu=x86-64-v2 threads=_exit,abort,free,malloc,pthread_attr_destroy,pthread_attr_init,pthread_attr_setguardsize,pthread_attr_setstacksize,pthread_create,pthread_detach,pthread_join,pthread_self,sched_yield,syscall main=Threads+Wait may-wait=1 sum=dac8208d650f15bf native=nat,char,string logic-built=trusted libraries-built=trusted statements=trusted'
 
 # Takes the lock of the builds as the descriptor `lock`, and waits for it.
 take_lock() {
@@ -20,10 +20,11 @@ take_lock() {
     flock "$lock" || say "$kept/lock cannot be locked"
 }
 
-# Keeps the program $1 as the one that was proved here of the sources with the digest $2, by the kit that `by` names.
+# Keeps the program $1 as the one that was proved here of the sources with the digest $2, by the kit that `by` names. Its file ends
+# with a line that says which sources, and that it writes behind its version.
 install_program() {
     local own
-    cp -- "$1" "$program.$$" && [ -x "$program.$$" ] && own=$(sha256sum <"$program.$$") &&
+    cp -- "$1" "$program.$$" && [ -x "$program.$$" ] && printf 'sources %s\n' "$2" >>"$program.$$" && own=$(sha256sum <"$program.$$") &&
         keep_program "$program.$$" proved "program ${own%% *}"$'\n'"sources $2"$'\n'"kit $by" || say "the program that was made cannot be copied to $kept"
 }
 

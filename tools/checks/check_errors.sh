@@ -75,6 +75,7 @@ own_mirror 4 310
 END
 # An entry that is too small, whose number is below that of the table, and one that is too great.
 cp F1 F1_too_small && change F1_too_small 20 00
+cp F1 kept && chmod a-w kept
 cp F123 F123_too_great && change F123_too_great 34 08
 cp tiles_1_to_5 wrong && change wrong 3144979 07
 truncate -s 65537 long_text
@@ -173,6 +174,10 @@ fault write F1|F1: this run reads that file, so it is not replaced: `--replace` 
 fault write ./F1|./F1: this run reads that file, so it is not replaced: `--replace` allows that|solve board one_set ./F1 F12 F3 F1 F123
 fault write F123|F123: a table is there, or what can't be read, so no log takes its place: `--replace` allows that|solve board one_set F123 F12
 fault write leaf|leaf: a log is there, or what can't be read, so no table takes its place: `--replace` allows that|make-table 2 1 leaf
+fault write F123|F123: a table of another side or mask is there, so it is not replaced: `--replace` allows that|make-table 2 1 F123
+fault write board|board: what is there is neither a table nor a log, or can't be read, so it is not replaced: `--replace` allows that|make-table 2 1 board
+fault write solved|solved: what is there is neither a table nor a log, or can't be read, so it is not replaced: `--replace` allows that|solve board one_set solved F12
+fault write kept|kept: it is read-only to its owner, so it is not replaced: `chmod u+w` allows that|make-table 2 2 kept --replace
 END
 
 # Where a line that is no claim goes wrong, and what is wrong there.
@@ -415,7 +420,7 @@ rm log_of_67_megabytes
 
 # A file of more than 2^32 bytes is replaced.
 rm made && truncate -s 4294967297 made
-says 'exact side 2 mask 6 entries 24 unreachable 8 deepest 4' 'make-table 2 6 made'
+says 'exact side 2 mask 6 entries 24 unreachable 8 deepest 4' 'make-table 2 6 made --replace'
 check 'a file of more than 2^32 bytes becomes a table' cmp -s made F12
 
 #

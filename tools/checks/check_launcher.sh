@@ -139,6 +139,8 @@ no_list | rm out/stamp | ran
 no_list_and_no_room | rm out/stamp; by=(bash -c "ulimit -f 0; exec \"\$@\"" bash "$launcher"); words=(status 7) | gave 7
 kit_elsewhere | cp -r "$kit" "$at/2"; path=$at/2/bin:$work/bin | ran
 no_kit | path=$work/bin | ran
+no_kit_and_no_list | rm out/stamp; path=$work/bin | ran
+no_kit_by_the_environment | path=$work/bin; by=("$env" PDB_PROVED_HERE=1 "$launcher") | ran
 lost_program | rm out/pdb_cli | ran pdb_cli
 changed_program | sed s/words/other/ out/pdb_cli >x; cat x >out/pdb_cli | ran pdb_cli
 damaged_library | low LAW; : >out/proved/low.tar | ran low pdb_cli
@@ -307,7 +309,8 @@ terminal_set_to_nothing | on_terminal PDB_PROGRESS= | saw glibc.malloc.hugetlb=1
 no_terminal | by=("$env" -u GLIBC_TUNABLES "$launcher"); words=(environment) | gave 0 "not set glibc.malloc.hugetlb=1"
 progress_set | by=("$env" PDB_PROGRESS=2 GLIBC_TUNABLES=a=1 "$launcher"); words=(environment) | gave 0 "2 a=1:glibc.malloc.hugetlb=1"
 pages_set | by=("$env" GLIBC_TUNABLES=glibc.malloc.hugetlb=0 "$launcher"); words=(environment) | gave 0 "not set glibc.malloc.hugetlb=0"
-version | words=(--version) | [ "$(sed "s/[0-9a-f]\{64\}/D/" "$at/stdout" | xargs)" = "proved here, with the kit D kit 1 sources D pdb_cli 9" ]'
+version | words=(--version) | [ "$(sed "s/[0-9a-f]\{64\}/D/" "$at/stdout" | xargs)" = "proved here, with the kit D kit 1 pdb_cli 9 sources D" ]
+last_line | words=(status 0) | [ "$(tail -n 1 "$checkout/out/pdb_cli")" = "$(sed -n 3p "$checkout/out/built")" ]'
 group_streams() {
     make_case streams && start && : >"$at/orders/calls"
     do_there 'mkdir "$at/links"; ln -s "$launcher" "$at/links/one"; ln -s one "$at/links/two"; ln -s "$checkout/tools" "$at/links/in"'

@@ -29,7 +29,7 @@ told_help() {
     [ "$status" = 0 ] && [ ! -s "$work/errors" ] && grep -q '^Usage: pdb_cli' "$work/output"
 }
 
-# Whether the run told the version, by the launcher below where the program was proved and of which sources.
+# Whether the run told the version, by the launcher below where the program was proved, and by a program that was kept above its sources.
 told_the_version() {
     local above='proved (here|where it was released), with the kit [0-9a-f]{64} .+|sources [0-9a-f]{64}'
     [ "$status" = 0 ] && [ ! -s "$work/errors" ] && [ "$(grep -Evx "$above" "$work/output")" = 'pdb_cli 0.2.0' ]
@@ -212,6 +212,10 @@ for words in --version -V '--version table' '-V --help'; do
     run $words
     check "the version by $words" told_the_version
 done
+if [ "$#" = 0 ]; then
+    "$bare" --version >"$work/output"
+    check 'the program alone tells its sources' cmp -s "$work/output" <(echo 'pdb_cli 0.2.0' && sed -n 3p "$root/out/built")
+fi
 run ''
 check 'the mistake in an empty word' told_a_mistake
 run 'replay solved'
@@ -998,6 +1002,7 @@ limit_memory table all_of_side_3 --workers 64
 limit_memory optimal six_moves one_set branches F12 --workers 7
 limit_memory optimal six_moves one_set branches F12 --workers 7 --fold
 limit_memory make-table 3 126 made --workers 7
+rm -f made
 limit_memory solve board one_set made F12 --workers 7
 limit_memory solve board one_set made F12 --fold
 limit_memory prove true_claims one_set F12 --workers 7
@@ -1101,7 +1106,8 @@ limit_stack optimal six_moves one_set branches "${most_tables[@]}" --workers 64
 limit_stack optimal six_moves one_set branches "${most_tables[@]}" --workers 64 --fold
 limit_stack bound board sixteen_mirrors citation "${most_tables[@]}" --workers 64 --fold
 limit_stack make-table 2 14 made
-limit_stack make-table 3 126 made --workers 64
+limit_stack make-table 3 126 made --workers 64 --replace
+rm -f made
 limit_stack solve next_board one_set made F123
 limit_stack solve board one_set made "${most_tables[@]}" --workers 64
 limit_stack solve board sixteen_mirrors made "${most_tables[@]}" --workers 64
@@ -1308,11 +1314,11 @@ for numbers in '2 1' '6 2' '2 0' '2 15' '5 254' '0 0' '255 4294967295' '2 0x0' '
     check "make-table $numbers keeps nothing" only_new
 done
 echo 'what stood here' >taken
-expect 'make-table without a pattern over a file' 1 'refused K4' : make-table 2 1 taken
+expect 'make-table without a pattern over a file' 1 'refused K4' : make-table 2 1 taken --replace
 check 'a refusal leaves the file' cmp -s taken <(echo 'what stood here')
 digest=$(sha256sum <F12)
 expect 'make-table over a file' 0 "sha256 ${digest%% *}" 'exact side 2 mask 6 entries 24 unreachable 8 deepest 4' : \
-    make-table 2 6 taken
+    make-table 2 6 taken --replace
 check 'the file is replaced' cmp -s taken F12
 rm taken
 
@@ -1392,7 +1398,7 @@ run optimal "$work/puzzle" one_set both F12
 check 'what stands there is the log' [ "$status.$(tail -n 1 "$work/output")" = '0.optimal 6' ]
 rm both
 
-# A file that is read, and one of the other kind, is spared, and nothing is tried or done: spares OUT WHY WORD..
+# A file that is read, and one that is not of the same kind, is spared, and nothing is tried or done: spares OUT WHY WORD..
 spares() {
     local out=$1 why=$2
     shift 2
@@ -1400,7 +1406,8 @@ spares() {
     names_before=$(names_of)
     run "$@"
     check "$* spares $out" wrote 2 "fault write $out"
-    check "$* says why it spares $out" [ "$(cat "$work/errors")" = "pdb_cli: $out: $why: \`--replace\` allows that" ]
+    [[ $why == *': '* ]] || why+=": \`--replace\` allows that"
+    check "$* says why it spares $out" [ "$(cat "$work/errors")" = "pdb_cli: $out: $why" ]
     check "$* leaves $out as it was" cmp -s "$out" "$work/before"
     check "$* leaves nothing else" only_new
 }
@@ -1434,21 +1441,52 @@ if [ "$(id -u)" != 0 ]; then
     chmod u+r a_log unread && rm unread
 fi
 expect 'an input that is not there comes before a file that is spared' 2 'fault read none' : solve none one_set F12 F123
-# The same kind is replaced, and so is what only begins a little as the other does.
+# A table of the same pattern is replaced, and so is any log; another table isn't, nor what only begins a little as these do.
 run solve next_board one_set a_log F123
 check 'a log is replaced by a log' [ "$status.$(tail -n 1 "$work/output")" = '0.optimal 1' ]
-cp F12 a_table
-run make-table 2 14 a_table
-check 'a table is replaced by a table' cmp -s a_table F123
-for front in PDBL 'PDBL\x00' 'PDBL\x03' 'PDB' '' 'PDBT\x01' 'x'; do
+why='a table of another side or mask is there, so it is not replaced'
+for file in F123 F1 F24 F12_with_FE; do
+    cp "$file" a_file
+    spares a_file "$why" make-table 2 12 a_file
+done
+of_12='PDBT\x01\x02\x02\x00\x00\x00\x00\x06'
+for front in "${of_12%06}04" "${of_12%\\x06}" 'PDBT\x01\x03\x02\x00\x00\x00\x00\x06' 'PDBT\x01\x02\x01\x00\x00\x00\x00\x06' 'PDBT\x01'; do
+    printf %b "$front" >a_file
+    spares a_file "$why" make-table 2 6 a_file
+done
+for front in "$of_12" "$of_12 and more"; do
     printf %b "$front" >a_file
     run make-table 2 6 a_file
     check "a file of '$front' is replaced by a table" cmp -s a_file F12
 done
-for front in PDBT 'PDBT\x00' 'PDBT\x02' 'PDBL\x01' 'PDBL\x02'; do
+cp F12_with_FE a_file
+run make-table 2 6 a_file
+check 'a table with a wrong entry is replaced by the right one' cmp -s a_file F12
+why="what is there is neither a table nor a log, or can't be read, so it is not replaced"
+for front in PDBL 'PDBL\x00' 'PDBL\x03' PDB '' PDBT 'PDBT\x00' 'PDBT\x02' 'a text\n'; do
+    printf %b "$front" >a_file
+    spares a_file "$why" make-table 2 6 a_file
+    spares a_file "$why" solve board one_set a_file F12
+    run make-table 2 6 a_file --replace
+    check "a file of '$front' is replaced by a table, as it is told to" cmp -s a_file F12
+done
+for front in 'PDBL\x01' 'PDBL\x02'; do
     printf %b "$front" >a_file
     run solve board one_set a_file F12
     check "a file of '$front' is replaced by a log" cmp -s a_file by_parity
+done
+# What its owner may not write stays, whatever the words say, and whoever runs them.
+why="it is read-only to its owner, so it is not replaced: \`chmod u+w\` allows that"
+for mode in 400 444 575; do
+    for file in F12 by_parity board; do
+        cp "$file" a_file && chmod "$mode" a_file
+        spares a_file "$why" make-table 2 6 a_file
+        spares a_file "$why" make-table 2 6 a_file --replace
+        spares a_file "$why" solve board one_set a_file F12
+        spares a_file "$why" solve board one_set a_file F12 --replace
+        check "a file of mode $mode keeps it" [ "$(stat -c %a a_file)" = "$mode" ]
+        chmod u+w a_file && rm a_file
+    done
 done
 run make-table 2 6 a_log --replace
 check 'a log is replaced by a table, as it is told to' cmp -s a_log F12
@@ -1505,11 +1543,14 @@ for out in "${too_long:1}" "$(printf 'é%.0s' {1..127})" "./${too_long:1}" "a${t
     check "make-table under a name of ${#out} letters leaves nothing else" only_new "${out#./}"
     rm -f "$out"
 done
-for mode in 600 444 755; do
-    echo 'what stood here' >made
+# The mode of a file, and what its table has then: setuid and setgid go.
+for mode in '600 600' '755 755' '222 222' '4755 755' '2755 755' '6711 711' '1644 1644'; do
+    read -r mode kept <<<"$mode"
+    cp F12_with_FE made
     chmod "$mode" made
-    run make-table 2 6 made
-    check "a file that is replaced keeps its mode $mode" [ "$(stat -c %a made)" = "$mode" ]
+    run make-table 2 6 made --replace
+    check "a file of mode $mode that is replaced has mode $kept" [ "$(stat -c %a made)" = "$kept" ]
+    chmod u+r made
     check "a file of mode $mode is replaced" cmp -s made F12
     rm -f made
 done
@@ -1565,9 +1606,9 @@ fi
 # Two makers at once under one name.
 names_before=$(names_of)
 for pair in {1..20}; do
-    "$program" make-table 2 6 made >"$work/first" 2>"$work/errors" &
+    "$program" make-table 2 6 made --replace >"$work/first" 2>"$work/errors" &
     status=0
-    "$program" make-table 2 14 made >"$work/output" 2>>"$work/errors" || status=$?
+    "$program" make-table 2 14 made --replace >"$work/output" 2>>"$work/errors" || status=$?
     wait $! || status=$?
     check "pair $pair of makers ends well" [ "$status.$(tail -qn 1 "$work/first" "$work/output" | grep -c '^exact')" = 0.2 ]
     check "pair $pair leaves the whole file of one of them" [ -n "$(cmp -s made F12 && echo F12 || cmp -s made F123 && echo F123)" ]

@@ -79,7 +79,7 @@ exit
 # shellcheck disable=SC2317
 # It needs GLIBC_2.2.5 of the C library.
 case ${1-} in
---version) echo 'pdb_cli 9' ;;
+--version) echo 'pdb_cli 9' && tail -n 1 "$0" ;;
 sources) printf '%s\n' "$made" ;;
 words) [ "$#" = 1 ] || printf '%s\0' "${@:2}" ;;
 status) exit "$2" ;;
@@ -90,3 +90,4 @@ environment) echo "${PDB_PROGRESS-not set} ${GLIBC_TUNABLES-not set}" ;;
 make-table | solve) : >made.unkept && exec 9>made.unkept && for _ in {1..600}; do sleep 0.1; done ;;
 '') echo "$# words" ;;
 esac
+exit

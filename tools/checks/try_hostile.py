@@ -336,7 +336,8 @@ def kept_under(draw, files):
     out = draw.choice(["made"] * 8 + ["taken"] * 3 + ["two words", "a\nb"] + unkept)
     if files and draw.random() < 0.1:
         out = draw.choice(list(files))
-    taken = draw.choice([b"what stood here", b"what stood here", b"PDBT\1 is here", b"PDBL\1 is here", b"PDBL\2", b"PDBT\2"])
+    table = b"PDBT\1\2\1\0\0\0\0\2"
+    taken = draw.choice([b"what stood here", b"", table, b"PDBT\1 is here", b"PDBL\1 is here", b"PDBL\2", b"PDBL\2", b"PDBT\2"])
     return out, {**files, "taken": taken, "made.unkept": b"a file of a user"}
 
 

@@ -30,7 +30,7 @@ The blank is first in the goal board. `tools/claims/show_solution.py` shows the 
 KORF = """\
 ## The 15-puzzle: Korf's hundred boards
 
-Korf (1985) published them with his search by iterative deepening, the first that found their shortest solutions. They have {least} to {most} moves. The files: [boards and moves](results/korf_1985.claims), and [answers](results/korf_1985.answers). This makes the tables and compares all hundred answers, in less than 20 seconds:
+Korf (1985) published them with his search by iterative deepening, the first that found their shortest solutions. They have {least} to {most} moves. The files: [boards and moves](results/korf_1985.claims), [answers](results/korf_1985.answers), and [how many boards](results/korf_1985.csv) the last search expands, which finds no shorter solution, if 65,536 or more. This makes the tables and compares all hundred answers, in less than 20 seconds:
 
 ```
 ./pdb_cli make-table 4 tiles:1,5,6,9,10,13 left
@@ -39,8 +39,6 @@ Korf (1985) published them with his search by iterative deepening, the first tha
 printf 'set 0 1 2\\nset 0t 1t 2t\\n' >sets
 ./pdb_cli prove docs/results/korf_1985.claims sets left right top --workers 4 | diff - docs/results/korf_1985.answers
 ```
-
-The number of boards is that of the last search, which finds no shorter solution; few are under 65,536.
 """
 KORF_AND_FELNER = """\
 ## The 24-puzzle: {count} boards of Korf and Felner
@@ -57,7 +55,7 @@ printf 'set 0 1 2 3\\nset 0t 1t 2t 3t\\n' >sets
     diff - docs/results/korf_felner_2002.answers
 ```
 
-The last searches expand {boards} boards in all. Four idle processors expand 47 to 53 million a second ([SPEED](SPEED.md)).
+The number of boards is that of the last search. All together expand {boards}; [SPEED](SPEED.md) says how fast.
 """
 # A search of fewer than 65,536 boards tells nothing while it runs.
 FEW = "few"
@@ -101,19 +99,28 @@ def table(shown, across):
         yield "| " + " | ".join(cells + [""] * (3 * across - len(cells))) + " |"
 
 
-def section(name, text, across):
+def lengths(shown):
+    """A table of the moves alone, of ten claims a row."""
+    yield "| no. | moves |"
+    yield "|---|---|"
+    for first in range(0, len(shown), 10):
+        row = shown[first : first + 10]
+        yield f"| {row[0][0]} to {row[-1][0]} | {' '.join(str(moves) for _, moves, _ in row)} |"
+
+
+def section(name, text, lines_of):
     shown = list(rows(name))
     moves = [it for _, it, _ in shown]
     boards = sum(int(it.replace(",", "")) for _, _, it in shown if it != FEW)
     print()
     print(text.format(count=len(shown), least=min(moves), most=max(moves), boards=f"{boards:,}"))
-    print("\n".join(table(shown, across)))
+    print("\n".join(lines_of(shown)))
 
 
 def main():
     print(INTRODUCTION, end="")
-    section("korf_1985", KORF, 4)
-    section("korf_felner_2002", KORF_AND_FELNER, 2)
+    section("korf_1985", KORF, lengths)
+    section("korf_felner_2002", KORF_AND_FELNER, lambda shown: table(shown, 2))
 
 
 main()

@@ -926,9 +926,14 @@ def parts_joined(run, inputs):
 
 
 def is_spared(run):
-    """Whether OUT is an input of the run, or holds a file of the other kind: a table or a log, by its first five bytes."""
-    fronts = [b"PDBT\1"] if run.command == "solve" else [b"PDBL\1", b"PDBL\2"]
-    return run.out in run.names or run.files.get(run.out, b"")[:5] in fronts
+    """Whether OUT is an input of the run, or holds something that begins neither as a log does, of `solve`, nor as a table of this
+    side and mask."""
+    if run.command == "solve":
+        fronts = (b"PDBL\1", b"PDBL\2")
+    else:
+        side, mask = run.numbers
+        fronts = (b"PDBT\1" + bytes([side, mask.bit_count(), 0]) + mask.to_bytes(4, "big"),)
+    return run.out in run.names or run.out in run.files and not run.files[run.out].startswith(fronts)
 
 
 def can_be_kept(name):

@@ -5,9 +5,9 @@ ghost use Rattle.std.specs.Prelude.{◌≡◌, None, false};
 use crate::shelf::{KeepFault, Shelf};
 use crate::streams::{ReadFault, WriteFault, put_bytes, read_said};
 use std::alloc::{AllocError, Global};
-use std::fs::{File, OpenFile, OpenOptions, Permissions};
+use std::fs::{File, Metadata, OpenFile, OpenOptions, Permissions};
 use std::io::{ErrorKind, Read};
-use std::os::unix::fs::MetadataExt;
+use std::os::unix::fs::{MetadataExt, PermissionsExt};
 use std::rt::Files;
 use std::{fs, io};
 
@@ -17,6 +17,12 @@ const TEMPORARY_NAMES: u16 = 1_000;
 /// How many bytes of a file's own name its temporary file has in its name. The system takes 255, and this leaves room for an
 /// ending.
 const MOST_NAME: usize = 240;
+
+/// The bits of a mode that a file hands on to the one that takes its place: none by which others would run that as its owner.
+const KEPT_BITS: u32 = 0o1777;
+
+/// The bit of a mode by which the owner may write the file.
+const OWNER_WRITES: u32 = 0o200;
 
 /// The files of the system, by their paths. It tells no bytes: what is said of a file speaks of the bytes that were read.
 #[derive(Drop)]
@@ -66,6 +72,13 @@ impl<R: Files> Shelf for DiskShelf<'_, R> {
         begins_with(self.files, name, front)
     }
 
+    fn is_read_only(&self, name: &str) -> bool {
+        match fs::symlink_metadata(self.files, name) {
+            Ok(data) => data.is_file() && !owner_writes(&data),
+            Err(_) => false,
+        }
+    }
+
     fn try_keep(&mut self, alloc: Global, name: &str) -> Result<(), KeepFault> {
         let tried = make_and_remove(alloc, self.files, name);
         if tried == Err(KeepFault::F3) {
@@ -112,24 +125,29 @@ fn is_one_file<R: Files>(files: &R, name: &str, other: &str) -> bool {
 /// The most bytes of a file's front that are looked at.
 const MOST_FRONT: usize = 16;
 
-/// Whether the plain file under a name begins so. One that can't be looked at may: it counts as if it did.
+/// Whether the plain file under a name begins so. One that can't be looked at doesn't, but each begins with no bytes.
 fn begins_with<R: Files>(files: &R, name: &str, front: &[u8]) -> bool {
     match fs::symlink_metadata(files, name) {
         Ok(data) if data.is_file() => {}
         _ => return false,
     }
+    if front.is_empty() {
+        return true;
+    }
     let mut bytes = [0; MOST_FRONT];
     let Some(read) = bytes.get_mut(..front.len()) else {
-        return true;
+        return false;
     };
-    let result = match File::open(files, name) {
-        Ok(mut file) => file.read_exact(read),
-        Err(error) => Err(error),
+    let is_read = match File::open(files, name) {
+        Ok(mut file) => file.read_exact(read).is_ok(),
+        Err(_) => false,
     };
-    match result {
-        Ok(()) => bytes.starts_with(front),
-        Err(error) => !matches!(error.kind(), ErrorKind::NotFound | ErrorKind::UnexpectedEof),
-    }
+    is_read && bytes.starts_with(front)
+}
+
+/// Whether the owner of a file may write it.
+fn owner_writes(data: &Metadata) -> bool {
+    data.mode() & OWNER_WRITES != 0
 }
 
 /// A file that is to stand under a name once it is whole.
@@ -137,7 +155,7 @@ fn begins_with<R: Files>(files: &R, name: &str, front: &[u8]) -> bool {
 struct Temporary<F> {
     file: F,
     name: String,
-    /// The mode of what stands under that name, where that is told.
+    /// The mode that it gets from what stands under that name, where that is told.
     mode: Option<Permissions>,
 }
 
@@ -208,11 +226,14 @@ fn make_temporary<R: Files>(
     Err(KeepFault::F3)
 }
 
-/// The mode of the plain file under a name, where there is one and the system tells it. Where something else stands there, as a
-/// link, a folder, a pipe or a device, or the name is too long, nothing can be kept under it.
+/// The mode that the plain file under a name hands on, where there is one and the system tells it. Where something else stands
+/// there, as a link, a folder, a pipe or a device, or a file that its owner may not write, or the name is too long, nothing can be
+/// kept under it.
 fn mode_of<R: Files>(files: &R, name: &str) -> Result<Option<Permissions>, KeepFault> {
     match fs::symlink_metadata(files, name) {
-        Ok(data) if data.is_file() => Ok(Some(data.permissions())),
+        Ok(data) if data.is_file() && owner_writes(&data) => {
+            Ok(Some(Permissions::from_mode(data.mode() & KEPT_BITS)))
+        }
         Ok(_) => Err(KeepFault::F3),
         Err(error) if error.kind() == ErrorKind::InvalidFilename => Err(KeepFault::F3),
         Err(_) => Ok(None),

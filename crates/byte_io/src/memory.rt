@@ -98,6 +98,10 @@ impl Shelf for MemShelf {
         }
     }
 
+    fn is_read_only(&self, _name: &str) -> bool {
+        false
+    }
+
     fn try_keep(&mut self, _alloc: Global, _name: &str) -> Result<(), KeepFault>
         ensures room { IsOk result }
         ensures same { Some (files_in self.new) ≡ Some (files_in self.old) }

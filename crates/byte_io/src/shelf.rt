@@ -1,6 +1,6 @@
 //! Named bytes.
 
-ghost use Rattle.std.specs.Prelude.{◌≡◌, ◌<◌, ◌≤◌, List, Option, Bool, Some, true, length, IfOk, OnOk, OnErr, IfSome, IsErrOf, IsSomeAnd};
+ghost use Rattle.std.specs.Prelude.{◌≡◌, ◌<◌, ◌≤◌, List, Option, Bool, Some, false, true, length, IfOk, OnOk, OnErr, IfSome, IsErrOf, IsSomeAnd};
 ghost use Rattle.std.specs.Str.{bytes_eq};
 ghost use Rattle.byte_io.specs.Shelf.{Call, Files, KeepsOthers, begins_with, fault_of, keeps, loads, told_then, told_with, tries};
 
@@ -56,9 +56,14 @@ pub trait Shelf {
         ensures same { name.now ≡ other.now → result ≡ true }
         ensures told { IfSome (held self.now) (λ _. result ≡ bytes_eq name.now other.now) };
 
-    /// Whether the bytes under a name begin so. Of a name under which nothing is they don't.
+    /// Whether the bytes under a name begin so. Where nothing is there, or it can't be looked at, they don't; but any bytes begin
+    /// with none.
     fn begins_with(&self, name: &str, front: &[u8]) -> bool
         ensures { IfSome (held self.now) (λ told. result ≡ begins_with told name.now front.now) };
+
+    /// Whether the owner of the file under a name may not write it. Only a shelf that doesn't tell its bytes says so.
+    fn is_read_only(&self, name: &str) -> bool
+        ensures { IfSome (held self.now) (λ _. result ≡ false) };
 
     /// Tries whether bytes can be kept under a name, and leaves all files as they are. That they can promises nothing of a
     /// later `keep`.

@@ -8,12 +8,12 @@ use pdb_program::{ArgumentFault, ProgramCall, ReadArguments, RunHost, start};
 use pdb_progress::{Watch, checked_files, is_asked_for};
 use pdb_reason::{Beginning, Reason, Summary};
 use pdb_request::Request;
-use pdb_run::{Beside, Cause};
+use pdb_run::{Beside, Cause, Status};
 use pdb_verdict::Fault;
 use std::alloc::Global;
 use std::env::Env;
 use std::fs::File;
-use std::io::Read;
+use std::io::{Read, Write};
 use std::process::ExitCode;
 use std::rt::Files;
 use std::{env, fs, io, str};
@@ -85,6 +85,33 @@ fn fault_before<R: Files>(rt: &R, alloc: Global, asked: &Request<'_>) -> Option<
     fault_ahead(&Look { alloc, files: rt }, asked)
 }
 
+/// How long the line is that a build writes at the end of the program's file.
+const SOURCES_LINE: usize = 73;
+
+/// Tells of which sources the program was made, where the end of its file says so.
+fn tell_sources(rt: &HostRuntime) -> io::Result<()> {
+    let Ok(file) = fs::read(rt, "/proc/self/exe") else {
+        return Ok(());
+    };
+    let file = file.as_slice();
+    let line = &file[file.len().saturating_sub(SOURCES_LINE)..];
+    if line.starts_with(b"sources ") {
+        rt.stdout().write_all(line)?;
+    }
+    Ok(())
+}
+
+/// Whether arguments that are well-formed ask for the version.
+fn asks_for_version(all: &Result<Vec<String>, ArgumentFault>) -> bool {
+    match all {
+        Ok(all) => all
+            .as_slice()
+            .get(1)
+            .is_some_and(|word| matches!(word.as_str(), "--version" | "-V")),
+        Err(_) => false,
+    }
+}
+
 /// What is said of a board that may be meant to have the blank last at home, where progress is told.
 const BLANK_FIRST: &str = "pdb_cli: home has the blank first: --goal last has it last";
 
@@ -150,6 +177,9 @@ fn main(rt: HostRuntime) -> ExitCode {
         && is_asked_for(&rt)
     {
         let _ = rt.eprintln(Summary(tally));
+    }
+    if ended.why.is_none() && asks_for_version(&all) && tell_sources(&rt).is_err() {
+        return ExitCode::from(Status::Fault.code());
     }
     ExitCode::from(ended.status.code())
 }

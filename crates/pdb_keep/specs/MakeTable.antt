@@ -2,7 +2,7 @@
 --
 -- The maker is free: it may build any bytes, or give up. What is told of them, whether they are kept, and why it may give up, is not
 -- free.
-use Rattle.std.specs.Prelude.{◌≡◌, ℕ, [], Some, Ok, Err, true}
+use Rattle.std.specs.Prelude.{◌≡◌, ℕ, [], ◌∷◌, Some, Ok, Err, true}
 use Rattle.puz_board.specs.Masks.{numbers_of}
 use Rattle.pat_place.specs.Patterns.{IsPattern}
 use Rattle.tab_rule.specs.Limits.{HasBoardOfCost}
@@ -15,7 +15,7 @@ use Rattle.pdb_verdict.specs.declared.verdicts.Fault.{Fault}
 use Rattle.pdb_verdict.specs.declared.verdicts.Fault.TheVariants.{K3, K4}
 use Rattle.pdb_verdict.specs.declared.verdicts.Verdict.{Verdict}
 use Rattle.pdb_verdict.specs.declared.verdicts.Verdict.TheVariants as verdict
-use Rattle.pdb_keep.specs.Spared.{log_fronts, spared_unless}
+use Rattle.pdb_keep.specs.Spared.{replaced_unless, table_front}
 
 -- the tiles of the mask are a pattern on boards of the side
 abbrev pub ArePattern : ℕ → ℕ → Type 0
@@ -70,8 +70,10 @@ pub record TellsBuild (side mask : ℕ) (reply : Reply) : Type 0 where
 
 -- ---- the command
 
--- it reads nothing, and spares logs, unless it is asked to replace them; it takes memory and makes a table once the side and the mask are a pattern; for any number of workers
+-- it reads nothing, and spares all but tables of this side and this mask, unless it is asked to replace any file; it takes memory and
+-- makes a table once the side and the mask are a pattern; for any number of workers
 abbrev pub make_table_plan : MakeTableArguments → Plan
-make_table_plan arguments = plan_under (Some arguments.out) (spared_unless arguments.replace log_fronts) []
+make_table_plan arguments =
+    plan_under (Some arguments.out) (replaced_unless arguments.replace (table_front arguments.side arguments.mask ∷ [])) []
     (λ inputs. TellsBuild arguments.side arguments.mask) (λ inputs. ArePattern arguments.side arguments.mask)
     (λ inputs. ArePattern arguments.side arguments.mask)

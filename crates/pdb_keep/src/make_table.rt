@@ -16,7 +16,7 @@ ghost use Rattle.pdb_verdict.specs.Verdicts.{IsAnswerTo};
 ghost use Rattle.pdb_keep.specs.MakeTable.{ArePattern, IsBuilt, TellsBuild, make_table_plan};
 ghost use Rattle.pdb_keep.specs.Steps.{IsCauseForBuild};
 
-use crate::spared::spared_by_table;
+use crate::spared::{replaced_unless, table_front};
 use pat_place::Pattern;
 use pdb_request::MakeTable;
 use pdb_run::{
@@ -45,8 +45,8 @@ impl<'n> Command<'n> for Making<'n> {
     }
 }
 
-/// A whole run of `make-table`: the table is kept under its name once it is found exact. That something can be kept there, and no
-/// log is replaced unasked, is tried before the table is made.
+/// A whole run of `make-table`: the table is kept under its name once it is found exact. That something can be kept there, and
+/// nothing but such a table is replaced unasked, is tried before the table is made.
 #[inline(never)] // so that the stack has the values of one command alone
 pub fn run_make_table<'n, H: Threads + Wait + Sync, G: Gate + Sync, I: Io>(
     asked: &MakeTable<'n>,
@@ -59,9 +59,11 @@ pub fn run_make_table<'n, H: Threads + Wait + Sync, G: Gate + Sync, I: Io>(
         Ends plan (I.world io.old) (I.world io.new) result.status }
 {
     let command = Making(*asked);
+    let front = table_front(asked.side, asked.mask);
+    let fronts: [&[u8]; 1] = [&front];
     let keeping = Keeping {
         name: asked.out,
-        spares: spared_by_table(asked.replace),
+        replaces: replaced_unless(asked.replace, &fronts),
     };
     match read_inputs_and_try(workers.alloc, &command, keeping, io) {
         Ok(_inputs) => {

@@ -23,14 +23,16 @@ use crate::search_inputs::{Solving, with_bytes};
 use crate::searches_alone::SearchesAlone;
 use crate::shortest::find_shortest;
 use crate::solutions::lines_on;
-use crate::spared::spared_by_log;
+use crate::spared::replaced_by_log;
 use log_check::LogRefusal;
 use pdb_request::Solve;
 use pdb_run::{
     Answered, CommandAnswer, Digested, Ended, Io, Keeping, Unanswered, beside, digested_beside,
     keep_and_conclude, read_inputs_and_try,
 };
-use pdb_verdict::{Fault, SaidMoves, TableFiles, given_up, optimum_over, over_tables, settled, told};
+use pdb_verdict::{
+    Fault, SaidMoves, TableFiles, given_up, optimum_over, over_tables, settled, told,
+};
 use puz_board::{Board, BoardFault};
 use puz_goal::Goal;
 use puz_make::{MakeFault, is_out_of_reach, log_of};
@@ -43,8 +45,8 @@ use work_run::{Gate, Workers};
 const MANY_BOARDS: u64 = 1 << 28;
 
 /// A whole run of `solve`, whoever checks the tables and the log: at most its budget of boards is expanded, and the log is kept
-/// once it and the moves are found to prove an optimum. That something can be kept there, and neither an input nor a table is
-/// replaced unasked, is tried before anything is checked.
+/// once it and the moves are found to prove an optimum. That something can be kept there, and nothing but a log is replaced
+/// unasked, is tried before anything is checked.
 #[inline(never)] // so that the stack has the values of one command alone
 pub fn run_solve<'n, H: Threads + Wait + Sync, G: Gate + Sync, I: Io>(
     search: &Solve<'n, &'n str>,
@@ -59,7 +61,7 @@ pub fn run_solve<'n, H: Threads + Wait + Sync, G: Gate + Sync, I: Io>(
     let command = Solving(search);
     let keeping = Keeping {
         name: search.out,
-        spares: spared_by_log(search.replace),
+        replaces: replaced_by_log(search.replace),
     };
     let mut read = match read_inputs_and_try(workers.alloc, &command, keeping, io) {
         Ok(inputs) => with_bytes(search, inputs),

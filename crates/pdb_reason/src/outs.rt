@@ -1,8 +1,10 @@
 //! Why nothing is kept under a name.
 
-use crate::texts::{OUT_IS_LOG, OUT_IS_READ, OUT_IS_TABLE};
+use crate::texts::{
+    OUT_IS_ANOTHER_TABLE, OUT_IS_LOG, OUT_IS_NEITHER, OUT_IS_READ, OUT_IS_READ_ONLY, OUT_IS_TABLE,
+};
 use byte_io::shelf::Shelf;
-use pdb_request::{MakeTable, Request, Solve};
+use pdb_request::{Request, Solve};
 
 /// How a table begins.
 const TABLE: &[u8] = b"PDBT\x01";
@@ -10,36 +12,28 @@ const TABLE: &[u8] = b"PDBT\x01";
 /// How a log of each version begins.
 const LOGS: [&[u8]; 2] = [b"PDBL\x01", b"PDBL\x02"];
 
-/// Why what is under the name is spared, where it is, by what the shelf has there.
-pub(crate) fn spared_text<S: Shelf>(asked: &Request<'_>, shelf: &S) -> Option<&'static str> {
+/// Why what is under this name is spared, by what the shelf has there.
+pub(crate) fn spared_text<S: Shelf>(asked: &Request<'_>, name: &str, shelf: &S) -> &'static str {
+    let is_table = shelf.begins_with(name, TABLE);
     match asked {
-        Request::Solve(search) if !search.replace => spared_by_log(search, shelf),
-        Request::MakeTable(making) if !making.replace => spared_by_table(making, shelf),
-        _ => None,
+        _ if shelf.is_read_only(name) => OUT_IS_READ_ONLY,
+        Request::Solve(search) if is_read(search, name, shelf) => OUT_IS_READ,
+        Request::Solve(_) if is_table => OUT_IS_TABLE,
+        _ if is_table => OUT_IS_ANOTHER_TABLE,
+        _ if LOGS.iter().any(|log| shelf.begins_with(name, log)) => OUT_IS_LOG,
+        _ => OUT_IS_NEITHER,
     }
 }
 
-fn spared_by_log<S: Shelf>(search: &Solve<'_, &str>, shelf: &S) -> Option<&'static str> {
-    let is_read = shelf.are_one(search.out, search.board)
-        || shelf.are_one(search.out, search.sets)
-        || search
-            .tables
-            .as_slice()
-            .iter()
-            .any(|table| shelf.are_one(search.out, table));
-    if is_read {
-        Some(OUT_IS_READ)
-    } else if shelf.begins_with(search.out, TABLE) {
-        Some(OUT_IS_TABLE)
-    } else {
-        None
-    }
+/// Whether a search reads what is under this name.
+fn is_read<S: Shelf>(search: &Solve<'_, &str>, name: &str, shelf: &S) -> bool {
+    let mut tables = search.tables.as_slice().iter();
+    shelf.are_one(name, search.board)
+        || shelf.are_one(name, search.sets)
+        || tables.any(|table| shelf.are_one(name, table))
 }
 
-fn spared_by_table<S: Shelf>(making: &MakeTable<'_>, shelf: &S) -> Option<&'static str> {
-    if LOGS.iter().any(|log| shelf.begins_with(making.out, log)) {
-        Some(OUT_IS_LOG)
-    } else {
-        None
-    }
+/// Why nothing can be kept under this name, where what the shelf has there tells it.
+pub(crate) fn unkept_text<S: Shelf>(name: &str, shelf: &S) -> Option<&'static str> {
+    shelf.is_read_only(name).then_some(OUT_IS_READ_ONLY)
 }

@@ -2,7 +2,7 @@
 
 use crate::beginnings::Beginning;
 use crate::besides::write_spot;
-use crate::outs::spared_text;
+use crate::outs::{spared_text, unkept_text};
 use crate::texts::{ended_below, write_cause};
 use byte_io::shelf::Shelf;
 use pdb_progress::ShownName;
@@ -51,8 +51,8 @@ enum Subject {
 pub struct Reason<'a> {
     why: Cause<'a, Fault>,
     name: Named<'a>,
-    /// Why nothing is kept, where what is there is spared.
-    spared: Option<&'static str>,
+    /// Why nothing is kept, where what is there tells it.
+    unkept: Option<&'static str>,
     /// Where the line that is refused goes wrong, where that is known.
     spot: Option<Spot>,
     beginning: Beginning,
@@ -68,7 +68,7 @@ impl<'a> Reason<'a> {
         Some(Reason {
             why,
             name: named_for(asked, why)?,
-            spared: None,
+            unkept: None,
             spot: None,
             beginning: Beginning::OfAny,
             goal: asked.goal(),
@@ -84,16 +84,15 @@ impl<'a> Reason<'a> {
         }
     }
 
-    /// The same, of a run that did what was asked on this shelf: where nothing could be kept, since what is there is spared, that is
-    /// told.
+    /// The same, of a run that did what was asked on this shelf: where nothing was kept since what is there is spared, or is
+    /// read-only, that is told.
     pub fn on_shelf<S: Shelf>(self, asked: &Request<'_>, shelf: &S) -> Reason<'a> {
-        match self.why {
-            Cause::Unkept(_) => Reason {
-                spared: spared_text(asked, shelf),
-                ..self
-            },
-            _ => self,
-        }
+        let unkept = match self.why {
+            Cause::Spared(name) => Some(spared_text(asked, name, shelf)),
+            Cause::Unkept(name) => unkept_text(name, shelf),
+            _ => None,
+        };
+        Reason { unkept, ..self }
     }
 
     /// The same, of a run of which this is told besides.
@@ -132,11 +131,11 @@ impl<'a> Reason<'a> {
         }
     }
 
-    /// What is said in place of the sentence of its cause: where what is there is spared, and of moves that don't end with the blank last.
+    /// What is said in place of the sentence of its cause: where what is there is not replaced, and of moves that don't end with the blank last.
     fn own_text(&self) -> Option<&'static str> {
         match (self.goal, self.why) {
             (Goal::Last, Cause::Refused(Fault::Moves(MoveFault::M4))) => Some(NOT_LAST),
-            _ => self.spared,
+            _ => self.unkept,
         }
     }
 
@@ -186,7 +185,7 @@ impl Display for Reason<'_> {
 fn named_for<'a>(asked: &Request<'a>, why: Cause<'a, Fault>) -> Option<Named<'a>> {
     match why {
         Cause::Unread(name) | Cause::TooLong(name) => Some(file_or_input(name)),
-        Cause::Unkept(name) => Some(Named::File(name)),
+        Cause::Spared(name) | Cause::Unkept(name) => Some(Named::File(name)),
         Cause::MadeWrong | Cause::NoMemory => Some(Named::Nothing),
         Cause::Refused(fault) => named_for_refusal(asked, fault),
         Cause::Unwritten | Cause::Words | Cause::Open => None,

@@ -30,6 +30,18 @@ pub(crate) const OUT_IS_TABLE: &str =
 pub(crate) const OUT_IS_LOG: &str =
     "a log is there, or what can't be read, so no table takes its place: `--replace` allows that";
 
+/// What is said where a table would take the place of another one.
+pub(crate) const OUT_IS_ANOTHER_TABLE: &str =
+    "a table of another side or mask is there, so it is not replaced: `--replace` allows that";
+
+/// What is said where a table or a log would take the place of what is neither.
+pub(crate) const OUT_IS_NEITHER: &str =
+    "what is there is neither a table nor a log, or can't be read, so it is not replaced: `--replace` allows that";
+
+/// What is said where the owner of what is there has made it read-only.
+pub(crate) const OUT_IS_READ_ONLY: &str =
+    "it is read-only to its owner, so it is not replaced: `chmod u+w` allows that";
+
 /// What is said where an input can't be read.
 const UNREAD: &str = "it can't be read: is it there, is it no folder, and may you read it?";
 
@@ -48,7 +60,7 @@ pub(crate) fn write_cause<W: fmt::Write>(
     match why {
         Cause::Unread(_) => f.write_str(UNREAD),
         Cause::TooLong(_) => f.write_str(TOO_LONG),
-        Cause::Unkept(_) => f.write_str(UNKEPT),
+        Cause::Spared(_) | Cause::Unkept(_) => f.write_str(UNKEPT),
         Cause::MadeWrong => f.write_str(WRONG),
         Cause::NoMemory => f.write_str(NO_MEMORY),
         Cause::Refused(fault) => write_fault(f, *fault),

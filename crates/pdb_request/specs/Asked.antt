@@ -53,7 +53,7 @@ pub record MakeTableArguments : Type 0 where
   pub mask : ℕ
   -- the name under which the table is kept
   pub out : List ℕ
-  -- whether it may take the place of a log
+  -- whether it may take the place of any file
   pub replace : Bool
   -- how many workers check it
   pub workers : ℕ
@@ -64,7 +64,7 @@ pub record SolveArguments : Type 0 where
   pub board : List ℕ
   pub sets : List ℕ
   pub out : List ℕ
-  -- whether it may take the place of a table, or of a file that is read
+  -- whether it may take the place of any file, be it one that is read
   pub replace : Bool
   -- those of the tables, in order
   pub tables : List (List ℕ)

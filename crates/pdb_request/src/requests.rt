@@ -109,7 +109,7 @@ pub struct MakeTable<'a> {
     pub mask: u32,
     /// The name under which the table is kept.
     pub out: &'a str,
-    /// Whether the table may take the place of a log.
+    /// Whether the table may take the place of any file.
     pub replace: bool,
     /// How many workers check it: 1 to 64.
     pub workers: u8,
@@ -125,7 +125,7 @@ pub struct Solve<'a, T> {
     pub sets: T,
     /// The name under which the log is kept.
     pub out: &'a str,
-    /// Whether the log may take the place of a table, or of one of the files that are read.
+    /// Whether the log may take the place of any file, be it one that is read.
     pub replace: bool,
     /// The tables, in the order of their numbers: one or more.
     pub tables: Vec<T>,

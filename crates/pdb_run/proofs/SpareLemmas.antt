@@ -1,7 +1,7 @@
 -- Tests that one of several things passes.
-use Rattle.std.proofs.Common.{◌≡◌, ◌∙◌, ◌<◌, ◌+◌, ◌||◌, ℕ, Bool, List, [], ◌∷◌, None, Option, Some, ap, false, get_or, length, map, refl, sym, take, true}
+use Rattle.std.proofs.Common.{◌≡◌, ◌∙◌, ◌<◌, ◌+◌, ◌||◌, ℕ, Bool, List, [], ◌∷◌, ◌==◌, None, Option, Some, ap, false, get_or, is_some, length, map, refl, sym, take, true}
 use Rattle.std.specs.Borrow.{Bor}
-use Rattle.std.specs.List.{list_any}
+use Rattle.std.specs.List.{list_any, starts_with}
 use Rattle.std.specs.Option.{option_map_or}
 use Rattle.std.specs.Prelude.{IfSome}
 use Rattle.std.specs.Str.{bytes_eq}
@@ -41,3 +41,8 @@ pub input_at : (files : Option Files) (name : Bytes) (inputs : List Input) (i : 
 input_at None name inputs i d is within has true_is = tt
 input_at (Some told) name inputs i d is within has true_is =
     sym (any_at (λ wanted. option_map_or (bytes_eq name) wanted.name false) wanted_of inputs i d within (sym (or-false _) ∙ sym has ∙ true_is))
+
+-- all bytes begin with none
+pub begins_so : (found : Option Bytes) → option_map_or (λ bytes. starts_with ◌==◌ bytes []) found false ≡ is_some found
+begins_so None = refl
+begins_so (Some bytes) = refl

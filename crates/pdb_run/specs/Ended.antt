@@ -1,7 +1,7 @@
 -- The status of a run by why it ended without a yes.
 use Rattle.std.specs.Prelude.{◌≡◌, Option, Some, None}
 use Rattle.pdb_run.specs.declared.ends.Cause.{Cause}
-use Rattle.pdb_run.specs.declared.ends.Cause.TheVariants.{Unread, TooLong, Unkept, Unwritten, Words, MadeWrong, Refused, Open}
+use Rattle.pdb_run.specs.declared.ends.Cause.TheVariants.{Unread, TooLong, Spared, Unkept, Unwritten, Words, MadeWrong, Refused, Open}
 use Rattle.pdb_run.specs.declared.ends.Cause.TheVariants as cause
 use Rattle.pdb_run.specs.declared.ends.Ended.{Ended}
 use Rattle.pdb_run.specs.declared.statuses.Status.{Status}
@@ -12,6 +12,7 @@ abbrev pub status_by : {F : Type 0} → Option (Cause F) → Status
 status_by None = status.Yes
 status_by (Some (Unread name)) = status.Fault
 status_by (Some (TooLong name)) = status.Fault
+status_by (Some (Spared name)) = status.Fault
 status_by (Some (Unkept name)) = status.Fault
 status_by (Some Unwritten) = status.Fault
 status_by (Some Words) = status.Fault

@@ -1,5 +1,5 @@
 -- What inputs give; shelf and reader may tell their bytes or not.
-use Rattle.std.specs.Prelude.{◌≡◌, ⊤, ℕ, ◌<◌, ◌≤◌, ◌||◌, List, [], ◌∷◌, ◌++◌, Bool, true, false, Option, Some, None, IfSome, IsSomeAnd, length, option_map}
+use Rattle.std.specs.Prelude.{◌≡◌, ⊤, ℕ, ◌<◌, ◌≤◌, ◌&&◌, ◌||◌, List, [], ◌∷◌, ◌++◌, Bool, true, false, Option, Some, None, IfSome, IsSomeAnd, is_some, length, not, option_map}
 use Rattle.std.specs.List.{list_any}
 use Rattle.std.specs.Option.{option_map_or}
 use Rattle.std.specs.Str.{bytes_eq}
@@ -87,9 +87,13 @@ is_input inputs name = list_any (λ wanted. option_map_or (bytes_eq name) wanted
 abbrev pub begins_as_one : Files → Bytes → List Bytes → Bool
 begins_as_one files name fronts = list_any (begins_with files name) fronts
 
--- the name is that of an input, or what is under it begins in one of these ways
+-- there are bytes under this name, and they begin in none of these ways
+abbrev pub begins_otherwise : Files → Bytes → List Bytes → Bool
+begins_otherwise files name fronts = is_some (files name) && not (begins_as_one files name fronts)
+
+-- the name is that of an input, or what is under it begins in none of these ways
 abbrev pub is_spared : List Wanted → List Bytes → Files → Bytes → Bool
-is_spared inputs fronts files name = is_input inputs name || begins_as_one files name fronts
+is_spared inputs fronts files name = is_input inputs name || begins_otherwise files name fronts
 
 -- ---- an input as the code has it
 

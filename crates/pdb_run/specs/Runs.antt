@@ -96,17 +96,17 @@ status_of made_wrong = Fault
 abbrev pub IsRight : Plan → World → List Bytes → Reply → Type 0
 IsRight plan old inputs reply = AreRead old.files old.reader plan.inputs inputs × plan.MayReply inputs reply
 
--- files that begin in these ways are spared, if any are, and these inputs too; and where the shelf tells its bytes, the one under the
--- name is such a one
+-- only files that begin in these ways may be replaced, if not any may, and none of these inputs; and where the shelf tells its bytes,
+-- the one under the name is spared so
 abbrev pub SparesBy : Option (List Bytes) → List Wanted → Option Files → Bytes → Type 0
-SparesBy spares inputs files name = IsSomeAnd spares (λ fronts. IfSome files (λ told. is_spared inputs fronts told name ≡ true))
+SparesBy replaces inputs files name = IsSomeAnd replaces (λ fronts. IfSome files (λ told. is_spared inputs fronts told name ≡ true))
 
 -- a file is to be kept under this name, the inputs hold these bytes at the start, and what is under the name is spared
 pub record IsSpared (plan : Plan) (old : World) (name : Bytes) : Type 0 where
   pub under : plan.keeps_under ≡ Some name
   pub inputs : List Bytes
   pub read : AreRead old.files old.reader plan.inputs inputs
-  pub spares : SparesBy plan.spares plan.inputs old.files name
+  pub spares : SparesBy plan.replaces plan.inputs old.files name
 
 -- a file is to be kept under this name, the inputs hold these bytes at the start, and the shelf has failed when it was tried, or
 -- memory was wanted to try it
@@ -223,13 +223,13 @@ LeavesCalls plan old new unlisted = new ≡ old
 LeavesCalls plan old new no_memory = new ≡ calls_before plan old
 LeavesCalls plan old new made_wrong = new ≡ calls_before plan old
 
--- no file is spared, or, where the shelf tells its bytes, the one under the name is none that is
+-- any file may be replaced, or, where the shelf tells its bytes, the one under the name is none that is spared
 abbrev pub MayReplaceBy : Option (List Bytes) → List Wanted → Option Files → Bytes → Type 0
-MayReplaceBy spares inputs files name = IfSome spares (λ fronts. IfSome files (λ told. is_spared inputs fronts told name ≡ false))
+MayReplaceBy replaces inputs files name = IfSome replaces (λ fronts. IfSome files (λ told. is_spared inputs fronts told name ≡ false))
 
--- so it is with those that a plan spares
+-- so it is by a plan
 abbrev pub MayReplace : Plan → Option Files → Bytes → Type 0
-MayReplace plan files name = MayReplaceBy plan.spares plan.inputs files name
+MayReplace plan files name = MayReplaceBy plan.replaces plan.inputs files name
 
 -- and under the name under which it keeps a file
 abbrev pub IsFree : Plan → Option Files → Type 0

@@ -9,9 +9,9 @@ use Rattle.pdb_run.specs.Runs.{IsFree, World, calls_before, kept_after}
 use Rattle.pdb_run.specs.declared.answers.CommandAnswer.{CommandAnswer}
 use Rattle.pdb_run.specs.declared.runs.Keeping.{Keeping}
 
--- how the files begin that are spared, if any are, as the code has it
+-- how the files begin that may be replaced, if not any may, as the code has it
 abbrev pub fronts_in : Keeping → Option (List Bytes)
-fronts_in keeping = option_map (λ fronts. map (λ front. front.now) fronts.now) keeping.spares
+fronts_in keeping = option_map (λ fronts. map (λ front. front.now) fronts.now) keeping.replaces
 
 -- this input was read behind those before it
 pub record IsNext (wanted : Wanted) (old new : World) (before after : List Bytes) : Type 0 where

@@ -14,6 +14,8 @@ pub enum Cause<'n, F> {
     Unread(Option<&'n str>),
     /// The input of this name, or the reader, has more bytes than it may have.
     TooLong(Option<&'n str>),
+    /// What is under this name is spared.
+    Spared(&'n str),
     /// Nothing can be kept under this name.
     Unkept(&'n str),
     /// The output didn't take all that was to be written.
@@ -83,6 +85,7 @@ impl<'n, F: Copy> Ended<'n, F> {
             Some(
                 Cause::Unread(_)
                 | Cause::TooLong(_)
+                | Cause::Spared(_)
                 | Cause::Unkept(_)
                 | Cause::Unwritten
                 | Cause::Words

@@ -3,7 +3,7 @@
 ghost use Rattle.std.specs.Prelude.{◌≡◌, ◌∷◌, [], Some, map, IfErr, IfOk, IfSome, OnOk};
 ghost use Rattle.pdb_run.specs.Answers.{answer_text};
 ghost use Rattle.pdb_run.specs.Calls.{calls};
-ghost use Rattle.pdb_run.specs.Inputs.{begins_as_one, failures, is_input, is_spared, wanted_of};
+ghost use Rattle.pdb_run.specs.Inputs.{begins_as_one, begins_otherwise, failures, is_input, is_spared, wanted_of};
 ghost use Rattle.pdb_run.specs.Io.{CanNotKeep, IsKept, IsLoaded, IsNotKept, IsNotLoaded, IsTried, IsWritten, Streams};
 ghost use Rattle.pdb_run.specs.Runs.{World};
 ghost use Rattle.pdb_run.specs.Writing.{named_line, shown_byte};
@@ -33,7 +33,7 @@ pub trait Io {
         ensures unread { let wanted = wanted_of input.now in
             IfErr result (IsNotLoaded wanted (world self.old) (world self.new)) };
 
-    /// Whether a name is that of one of these inputs, or what is under it begins in one of these ways.
+    /// Whether a name is that of one of these inputs, or what is under it begins in none of these ways.
     fn is_spared(&self, name: &str, inputs: &[Input<'_>], fronts: &[&[u8]]) -> bool
         ensures { let wanted = map wanted_of inputs.now in let all = map (λ front. front.now) fronts.now in
             IfSome (world self.now).files (λ told. result ≡ is_spared wanted all told name.now) };
@@ -100,7 +100,7 @@ impl<S: Shelf, R: Source, W: Sink> Io for BorrowedIo<'_, '_, '_, S, R, W> {
     }
 
     fn is_spared(&self, name: &str, inputs: &[Input<'_>], fronts: &[&[u8]]) -> bool {
-        is_input(self.shelf, name, inputs) || begins_as_one(self.shelf, name, fronts)
+        is_input(self.shelf, name, inputs) || begins_otherwise(self.shelf, name, fronts)
     }
 
     fn try_keep(&mut self, alloc: Global, name: &str) -> Result<(), KeepFault> {
@@ -145,6 +145,15 @@ fn has_name<S: Shelf>(shelf: &S, name: &str, input: &Input<'_>) -> bool
         Some(other) => shelf.are_one(name, other),
         None => false,
     }
+}
+
+/// Whether something is under a name, and begins in none of these ways.
+#[tactic(auto, using(crate::proofs::SpareLemmas::begins_so))]
+fn begins_otherwise<S: Shelf>(shelf: &S, name: &str, fronts: &[&[u8]]) -> bool
+    ensures { let all = map (λ front. front.now) fronts.now in
+        IfSome (S.held shelf.now) (λ told. result ≡ begins_otherwise told name.now all) }
+{
+    shelf.begins_with(name, &[]) && !begins_as_one(shelf, name, fronts)
 }
 
 /// Whether what is under a name begins in one of these ways.

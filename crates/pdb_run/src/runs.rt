@@ -6,7 +6,7 @@ ghost use Rattle.pdb_run.specs.Answers.{IsAnswerBy, IsMadeBy, all_bytes, answer_
 ghost use Rattle.pdb_run.specs.Ended.{HasItsStatus, status_by};
 ghost use Rattle.pdb_run.specs.Inputs.{wanted_of};
 ghost use Rattle.pdb_run.specs.Io.{HasRead, HasReadAndTried, IsKept, IsNotKept, IsSaid};
-ghost use Rattle.pdb_run.specs.Runs.{Ends, MayReplaceBy, SparesBy, World, status_of, status_of_reply, text_of, unkept_status, unkept_text, unread};
+ghost use Rattle.pdb_run.specs.Runs.{Ends, MayReplaceBy, SparesBy, World, spared, status_of, status_of_reply, text_of, unkept_status, unkept_text, unread};
 ghost use Rattle.pdb_run.specs.Steps.{fronts_in, kept_of};
 ghost use Rattle.pdb_run.specs.declared.statuses.Status.{Status};
 ghost use Rattle.pdb_run.specs.Writing.{maker_line, memory_line, named_line, shown, shown_byte};
@@ -77,11 +77,11 @@ fn read_wanted<'n, C: Command<'n>, F: Copy, I: Io>(
     }
 }
 
-/// A name to keep a file under, and how the files begin that are spared there, beside the inputs, if any are spared.
+/// A name to keep a file under, and how the files begin whose place it may take there, if not that of any.
 #[derive(Clone, Copy)]
 pub struct Keeping<'n, 'f> {
     pub name: &'n str,
-    pub spares: Option<&'f [&'f [u8]]>,
+    pub replaces: Option<&'f [&'f [u8]]>,
 }
 
 /// As `read_inputs`, of a command that keeps a file under a name: once its inputs are read it is seen whether the file there is
@@ -95,7 +95,7 @@ pub fn read_inputs_and_try<'n, C: Command<'n>, F: Copy, I: Io>(
     io: &mut I,
 ) -> Result<Vec<Vec<u8>>, Ended<'n, F>>
     requires under { (C.plan command.now).keeps_under ≡ Some keeping.name.now }
-    requires spares { (C.plan command.now).spares ≡ fronts_in keeping }
+    requires replaces { (C.plan command.now).replaces ≡ fronts_in keeping }
     ensures caused { IfErr result HasItsStatus }
     ensures same_streams { I.streams io.new ≡ I.streams io.old }
     ensures tried { let plan = C.plan command.now in let old = I.world io.old in IfOk result
@@ -110,7 +110,7 @@ pub fn read_inputs_and_try<'n, C: Command<'n>, F: Copy, I: Io>(
     };
     let inputs = read_wanted(alloc, command, wanted.as_slice(), io)?;
     if is_spared(&keeping, wanted.as_slice(), io) {
-        return Err(say_unkept(keeping.name, KeepFault::F3, io));
+        return Err(say_spared(keeping.name, io));
     }
     match io.try_keep(alloc, keeping.name) {
         Ok(()) => Ok(inputs),
@@ -125,7 +125,7 @@ fn is_spared<I: Io>(keeping: &Keeping<'_, '_>, inputs: &[Input<'_>], io: &I) -> 
     ensures free { let wanted = map wanted_of inputs.now in let files = (I.world io.now).files in
         result ≡ false → MayReplaceBy (fronts_in keeping.now) wanted files keeping.now.name.now }
 {
-    match keeping.spares {
+    match keeping.replaces {
         Some(fronts) => io.is_spared(keeping.name, inputs, fronts),
         None => false,
     }
@@ -254,6 +254,16 @@ fn say_too_long<'n, F: Copy, I: Io>(input: &Input<'n>, io: &mut I) -> Ended<'n, 
         Cause::TooLong(input.name),
         io,
     )
+}
+
+/// Says that nothing is kept under a name, since what is there is spared.
+fn say_spared<'n, F: Copy, I: Io>(name: &'n str, io: &mut I) -> Ended<'n, F>
+    ensures caused { HasItsStatus result }
+    ensures same_streams { I.streams io.new ≡ I.streams io.old }
+    ensures said { let outcome = spared name.now in
+        IsSaid (text_of outcome) (status_of outcome) (I.world io.old) (I.world io.new) result.status }
+{
+    say_named("fault write ", name, Cause::Spared(name), io)
 }
 
 /// Says that nothing is kept under a name.

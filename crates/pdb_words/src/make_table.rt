@@ -45,7 +45,7 @@ pub(crate) fn make_table_command<'a>(alloc: Global) -> Result<Command<'a>, Alloc
         after_help: with_statuses!(
             "Building uses all processors, whatever --workers says: workers share the check behind it.
 OUT is replaced once the table is found exact; until then, and otherwise, it stays as it is.
-An OUT that begins as a log does is replaced only with --replace.
+An OUT that is no table of SIDE and MASK is replaced only with --replace.
 
 Reads no file. Answers the digest of the table and `exact ..`, or `refused ..` and why.",
             ""

@@ -11,7 +11,7 @@ use clap::ArgMatches;
 pub(crate) const REPLACE: Row<'static> = Row {
     id: "replace",
     kind: Kind::Flag,
-    help: "Let OUT be an input of the run, or a table or log of the other kind",
+    help: "Let OUT be an input of the run, or any other file that its owner may write",
 };
 
 /// Whether these matches of a command ask that what is made may replace any file.

@@ -72,7 +72,7 @@ fn search(alloc: Global) -> Result<Solve<'static, &'static str>, AllocError> {
         board: "next",
         sets: "sets",
         out: "o",
-        replace: false,
+        replace: true,
         tables: vec![in alloc; "f12", "f3"]?,
         workers: 1,
         fold: false,
@@ -112,7 +112,7 @@ const PATTERN: MakeTable<'static> = MakeTable {
     side: 2,
     mask: 6,
     out: "o",
-    replace: false,
+    replace: true,
     workers: 1,
 };
 

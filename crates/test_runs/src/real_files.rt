@@ -182,9 +182,14 @@ fn expect_fronts<R: Files + Abort>(rt: &R) {
     }
     assert!(rt; shelf.are_one("none", "none") && !shelf.are_one("none", "none_other"));
     assert!(rt; shelf.begins_with("front_test", b"ol") && shelf.begins_with("front_test", OLD));
-    for front in [b"od".as_slice(), b"older"] {
+    for front in [
+        b"od".as_slice(),
+        b"older",
+        b"old, and more bytes than are looked at",
+    ] {
         holds_for(rt, !shelf.begins_with("front_test", front), &front);
     }
+    assert!(rt; shelf.begins_with("front_test", b"") && !shelf.begins_with("front_folder", b""));
     for name in ["front_folder", "none", "", "front_test/a"] {
         holds_for(rt, !shelf.begins_with(name, b"ol"), &name);
     }

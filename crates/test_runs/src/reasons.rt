@@ -51,7 +51,7 @@ fn a_reason_has_its_sentence(rt: HostRuntime) -> Result<(), Fail> {
 fn a_file_that_is_spared_is_named(rt: HostRuntime) -> Result<(), Fail> {
     let asked = search(rt.alloc())?;
     let shelf = MemShelf::of(rt.alloc(), &[("out", b"PDBT\x01 ..")])?;
-    let reason = Reason::of(&asked, Cause::Unkept("out")).ok_or("a reason")?;
+    let reason = Reason::of(&asked, Cause::Spared("out")).ok_or("a reason")?;
     let told = format!(in rt.alloc(); "{}", reason.on_shelf(&asked, &shelf).ahead())?;
     let wanted =
         "pdb_cli: this run can't end in a yes: out: a table is there, or what can't be read, so no log takes its place: `--replace` allows that";

@@ -150,7 +150,7 @@ pub(crate) const TASKS: [Task<'static>; 11] = [
         status: 0,
     },
     Task {
-        words: &["make-table", "2", "8", "f12"],
+        words: &["make-table", "2", "8", "f12", "--replace"],
         reads: &[],
         out: Some("f12"),
         made: Some(&TILE_3),

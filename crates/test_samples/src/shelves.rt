@@ -87,6 +87,10 @@ impl Shelf for FailingShelf {
         self.files.begins_with(name, front)
     }
 
+    fn is_read_only(&self, name: &str) -> bool {
+        self.files.is_read_only(name)
+    }
+
     fn try_keep(&mut self, alloc: Global, name: &str) -> Result<(), KeepFault> {
         let tried = match self.calls.next() {
             Some(_) => self.files.try_keep(alloc, name),
