@@ -9,6 +9,7 @@ use puz_board::masks::{
     without,
 };
 use puz_board::{Board, BoardFault, Move, MoveFault, replay, split_puzzle, step, transposed_cell};
+use puz_goal::{Goal, replay_for};
 use std::process::Abort;
 use test_samples::boards::RING;
 
@@ -48,6 +49,23 @@ fn puzzles_of_each_side_are_replayed(rt: HostRuntime) {
         same_for(&rt, &answer(puzzle), &Some(Ok(want)), &puzzle);
     }
     same(&rt, &answer(b"0 1 2 2 ;"), &Some(Err(BoardFault::B5(3))));
+}
+
+/// Two moves put tiles 5 and 8 in their cells, with the blank in the last.
+#[test]
+fn moves_end_with_the_blank_last(rt: HostRuntime) {
+    let board = board_of(&rt, b"1 2 3 4 0 6 7 5 8");
+    same(&rt, &replay_for(Goal::Last, &board, b"DR"), &Ok(2));
+    same(
+        &rt,
+        &replay_for(Goal::First, &board, b"DR"),
+        &Err(MoveFault::M4),
+    );
+    same(
+        &rt,
+        &Goal::Last.board_for(&board),
+        &board_of(&rt, b"1 4 2 3 0 5 6 7 8"),
+    );
 }
 
 /// The board at a place of the ring, which goes on at its first.
