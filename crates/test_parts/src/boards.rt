@@ -54,7 +54,7 @@ fn puzzles_of_each_side_are_replayed(rt: HostRuntime) {
 /// Two moves put tiles 5 and 8 in their cells, with the blank in the last.
 #[test]
 fn moves_end_with_the_blank_last(rt: HostRuntime) {
-    let board = board_of(&rt, b"1 2 3 4 0 6 7 5 8");
+    let board = board_of(&rt, &[1, 2, 3, 4, 0, 6, 7, 5, 8]);
     same(&rt, &replay_for(Goal::Last, &board, b"DR"), &Ok(2));
     same(
         &rt,
@@ -64,7 +64,7 @@ fn moves_end_with_the_blank_last(rt: HostRuntime) {
     same(
         &rt,
         &Goal::Last.board_for(&board),
-        &board_of(&rt, b"1 4 2 3 0 5 6 7 8"),
+        &board_of(&rt, &[1, 4, 2, 3, 0, 5, 6, 7, 8]),
     );
 }
 
