@@ -48,5 +48,5 @@ pub record IsLogKept (arguments : SolveArguments) (old new : World) : Type 0 whe
   pub n : ℕ
   pub found : IsFoundLeast arguments old moves log files n
   pub kept : new.files ≡ told_with old.files arguments.out log
-  pub lines : WritesAll old.written new.written 
+  pub lines : WritesAll old.written new.written
       (digests_of files ++ (digests_of (log ∷ []) ++ (moves_line arguments.goal (letters_of moves) ++ counted_for arguments.goal (codes "optimal ") n)))

@@ -55,4 +55,4 @@ module _ {A : Type 0} where
       let sets = search.sets.items in
       let tables = all_bytes search.tables.items in
       IsMadeBy (TellsSearch search.goal search.fold search.budget text sets tables) (TakesMemoryForBound text tables)
-          (IsSearchable search.goal search.fold text sets tables) answer
+      (IsSearchable search.goal search.fold text sets tables) answer

@@ -30,7 +30,9 @@ use pdb_run::{
     Answered, CommandAnswer, Digested, Ended, Io, Keeping, Unanswered, beside, digested_beside,
     keep_and_conclude, read_inputs_and_try,
 };
-use pdb_verdict::{Fault, SaidMoves, TableFiles, given_up, optimum_over, over_tables, settled, told};
+use pdb_verdict::{
+    Fault, SaidMoves, TableFiles, given_up, optimum_over, over_tables, settled, told,
+};
 use puz_board::{Board, BoardFault};
 use puz_goal::Goal;
 use puz_make::{MakeFault, is_out_of_reach, log_of};
