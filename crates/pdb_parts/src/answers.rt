@@ -74,7 +74,8 @@ pub(crate) fn read_answer<'l>(line: &'l [u8], asked: &BoundInParts) -> Result<Pa
 /// The moves for which a claim is refused, as `refused O2 by ULDRUL`, where they are a solution of fewer moves than the bound.
 fn moves_in<'l>(what: &'l [u8], asked: &BoundInParts) -> Option<&'l [u8]>
     ensures some { IfSome result (λ moves. (what.now ≡ codes "refused O2 by" ++ moves.now)
-        × ((n : ℕ) × SolvesFor asked.now.goal asked.now.board moves.now n × (n < asked.now.bound))) }
+        × ((n : ℕ) × SolvesFor asked.now.goal asked.now.board moves.now n
+        × (n < asked.now.bound))) }
     ensures none { IfNone result ((moves : List ℕ) (n : ℕ)
         → what.now ≡ codes "refused O2 by" ++ moves
         → SolvesFor asked.now.goal asked.now.board moves n → ¬ (n < asked.now.bound)) }

@@ -56,8 +56,10 @@ pub(crate) fn counts_text(
     asked: &BoundInParts,
 ) -> Result<String, AllocError>
     requires { AreParts asked.now.count }
-    ensures { let first = first_told (shown asked.now) (file_names files.entry.names.now) (all_bytes files.entry.texts.now) in
-        IfOk result (λ text. string_bytes text ≡ counts_text counts.skipped counts.all first spent asked.now.count) }
+    ensures { let names = file_names files.entry.names.now in
+        let first = first_told (shown asked.now) names (all_bytes files.entry.texts.now) in
+        let told = counts_text counts.skipped counts.all first spent asked.now.count in
+        IfOk result (λ text. string_bytes text ≡ told) }
 {
     let mut text = skipped_text(alloc, files, counts, asked)?;
     text.push_str(ended_text(spent, asked.count).as_str())?;
@@ -80,7 +82,8 @@ fn skipped_text(
     asked: &BoundInParts,
 ) -> Result<String, AllocError>
     requires { AreParts asked.now.count }
-    ensures { let first = first_told (shown asked.now) (file_names files.entry.names.now) (all_bytes files.entry.texts.now) in
+    ensures { let names = file_names files.entry.names.now in
+        let first = first_told (shown asked.now) names (all_bytes files.entry.texts.now) in
         let line = skipped_line counts.skipped counts.all in
         IfOk result (λ text. string_bytes text ≡ where_some counts.skipped (line ++ first)) }
 {

@@ -1,13 +1,12 @@
 //! What the errors are told of the first line that is skipped.
 
-ghost use Rattle.std.specs.Prelude.{◌≡◌, ◌-◌, ◌++◌, ◌<◌, None, Some, IfNone, IfOk, IfSome, OnOk, length, map, min, string_bytes, take};
+ghost use Rattle.std.specs.Prelude.{◌≡◌, ◌++◌, ◌<◌, None, Some, IfNone, IfOk, IfSome, OnOk, length, map, not, string_bytes};
 ghost use Rattle.claim_text.specs.Parts.{AreParts};
 ghost use Rattle.pdb_request.specs.Asked.{file_names};
 ghost use Rattle.pdb_run.specs.Answers.{all_bytes};
-ghost use Rattle.pdb_parts.specs.Beside.{first_in, first_line, first_told, is_of_search, quoted, quoted_byte};
+ghost use Rattle.pdb_parts.specs.Beside.{first_in, first_line, first_told, is_of_search, quoted_byte};
 ghost use Rattle.pdb_parts.specs.Joining.{whole_lines};
 ghost use Rattle.pdb_parts.specs.Stored.{shown};
-ghost use Rattle.std.specs.Prelude.{not};
 
 use crate::answers::read_answer;
 use crate::beside::AnswerFiles;
@@ -34,7 +33,8 @@ pub(crate) fn first_told(
 ) -> Result<String, AllocError>
     requires { AreParts asked.now.count }
     ensures { let names = file_names files.entry.names.now in
-        IfOk result (λ text. string_bytes text ≡ first_told (shown asked.now) names (all_bytes files.entry.texts.now)) }
+        let told = first_told (shown asked.now) names (all_bytes files.entry.texts.now) in
+        IfOk result (λ text. string_bytes text ≡ told) }
 {
     for index in 0..files.names.len().min(files.texts.len()) {
         if let Some(skipped) = first_skipped(files.texts[index].as_slice(), asked) {
@@ -76,8 +76,8 @@ fn is_skipped(line: &[u8], asked: &BoundInParts) -> bool
 
 /// What is told of the first line that is skipped, of a file of this name.
 fn first_line(alloc: Global, name: &str, skipped: SkippedLine<'_>) -> Result<String, AllocError>
-    ensures { IfOk result
-        (λ text. string_bytes text ≡ first_line name.now skipped.entry.number skipped.entry.line.now) }
+    ensures { let told = first_line name.now skipped.entry.number skipped.entry.line.now in
+        IfOk result (λ text. string_bytes text ≡ told) }
 {
     let end = skipped.line.len().saturating_sub(1).min(MOST_QUOTED);
     let mut text = String::new(alloc);
@@ -94,7 +94,8 @@ fn first_line(alloc: Global, name: &str, skipped: SkippedLine<'_>) -> Result<Str
 /// Adds bytes to a text as they are quoted.
 #[tactic(auto, using(std::proofs::lemmas::Str::encode_ascii))]
 fn add_quoted(text: &mut String, bytes: &[u8]) -> Result<(), AllocError>
-    ensures { OnOk result (string_bytes text.new ≡ string_bytes text.old ++ map quoted_byte bytes.now) }
+    ensures { let more = map quoted_byte bytes.now in
+        OnOk result (string_bytes text.new ≡ string_bytes text.old ++ more) }
 {
     for byte in bytes {
         text.push(char::from(quoted_byte(*byte)))?;

@@ -40,7 +40,8 @@ pub fn join(
 ) -> Result<Joined, AllocError>
     requires { AreParts asked.now.count }
     ensures { let names = file_names files.entry.names.now in
-        IfOk result (λ joined. IsJoined joined names (all_bytes files.entry.texts.now) (shown asked.now)) }
+        let texts = all_bytes files.entry.texts.now in
+        IfOk result (λ joined. IsJoined joined names texts (shown asked.now)) }
 {
     let told = mark_all(alloc, files.texts, asked)?;
     match told {
@@ -67,7 +68,8 @@ fn join_marked(
     requires marks { let lines = flat_map whole_lines (all_bytes files.texts.now) in
         MarksLines (shown asked.now) lines marks.now }
     ensures { let names = file_names files.entry.names.now in
-        IfOk result (λ joined. IsJoined joined names (all_bytes files.entry.texts.now) (shown asked.now)) }
+        let texts = all_bytes files.entry.texts.now in
+        IfOk result (λ joined. IsJoined joined names texts (shown asked.now)) }
 {
     let holds = marks.holds.as_slice();
     let spent = count_spent(holds, marks.spent.as_slice());
@@ -134,7 +136,8 @@ fn false_text(
 
 /// The digest lines of the texts, and the line of the bound behind them.
 fn bound_text(alloc: Global, texts: &[Vec<u8>], asked: &BoundInParts) -> Result<String, AllocError>
-    ensures { let line = joined_line asked.now.goal asked.now.bound asked.now.count asked.now.board in
+    ensures { let asked = asked.now in
+        let line = joined_line asked.goal asked.bound asked.count asked.board in
         IfOk result (λ text. string_bytes text ≡ digests_of (all_bytes texts.now) ++ line) }
 {
     let mut text = digest_lines(alloc, texts)?;
