@@ -11,7 +11,7 @@ use Rattle.tab_file.specs.Tables.{Table}
 use Rattle.tab_rule.specs.ExactTables.{IsExactFile}
 use Rattle.byte_io.specs.Shelf.{Bytes, Files, with_file}
 use Rattle.byte_io.specs.Streams.{output}
-use Rattle.pdb_request.specs.Asked.{Asked, ProveArguments, TableArguments, bound, make_table, optimal, parts, prove, replay, solve, table}
+use Rattle.pdb_request.specs.Asked.{Asked, ProveArguments, TableArguments, bound, goal_asked, make_table, optimal, parts, prove, replay, solve, table}
 use Rattle.pdb_request.specs.declared.requests.LogClaim.TheVariants.{Bound, Optimum}
 use Rattle.pdb_run.specs.Calls.{Calls}
 use Rattle.pdb_run.specs.Commands.{Wanted}
@@ -35,7 +35,7 @@ use Rattle.pdb_keep.proofs.KeptLemmas.{file-kept, log_answered, search_stood, ta
 use Rattle.pdb_keep.proofs.LetterLemmas.{told_solution}
 use Rattle.pdb_parts.proofs.ReplyLemmas.{yes_says}
 use Rattle.pdb_words.specs.CommandLine.{Parses, asked_of}
-use Rattle.pdb_program.specs.Headline.{AreAYes, AreWholeLines, HasLine, Headline, HoldsOfYes, SaysExact, SaysYes}
+use Rattle.pdb_program.specs.Headline.{AreAYes, ArePartLinesTrue, AreWholeLines, HasLine, Headline, HoldsOfYes, SaysExact, SaysYes}
 use Rattle.pdb_program.specs.Programs.{EndsFor, IsNumberOfStatus, RunsOn, plan_of}
 use Rattle.pdb_program.specs.Steps.{SaysHeadline, SaysParts}
 use Rattle.pdb_program.proofs.AnswerLemmas.{AnswersOnce, IsLast, behind_digests, counted_last, digests_say_no_yes, exact_one, exact_words}
@@ -358,7 +358,8 @@ module _ (before later : Files) (input start lines : Bytes) (calls calls_after :
       → Headline (prove a) before later input lines number
   prove_told a number ended = record {
     lines_true = claims_true start lines a old new ended.0 ended.2 refl refl;
-    parts_true = λ b same. part_lines_true start lines a old new ended.0 ended.2 refl refl;
+    parts_true = λ b same.
+        subst (λ goal. ArePartLinesTrue goal lines) (ap goal_asked same) (part_lines_true start lines a old new ended.0 ended.2 refl refl);
     last = λ above line below has says once. absurd (once a refl);
     yes = λ zero.
         let answered = answered_by (prove a) old new true number ended zero in
