@@ -352,6 +352,8 @@ struct stand {
     uint8_t count[MOST_SETS][MOST_TABLES];
     int sum[MOST_SETS];
     int32_t state;
+    double weight; /* how many boards of the search it stands for */
+    double worth;  /* and about how many it and they lead to, in some measure */
 };
 
 static int32_t (*automaton)[WAYS];
@@ -397,13 +399,61 @@ static int enter(struct stand *it, int way, int left)
     return 1;
 }
 
-static void keep_samples(const struct stand *level, uint32_t count, int many)
+static double weight_of(const struct stand *level, uint32_t count)
 {
-    for (int k = 0; k < many && samples < MOST_SAMPLES; k++)
-        memcpy(sample[samples++], level[draw() % count].cell, cells);
+    double weight = 0;
+    for (uint32_t i = 0; i < count; i++)
+        weight += level[i].weight;
+    return weight;
 }
 
-/* Expands level by level, of each level so many boards, evenly spread, each of which stands for as many as were left out. */
+/* Boards evenly spread over those for which the level stands. */
+static void keep_samples(const struct stand *level, uint32_t count, int many)
+{
+    double step = weight_of(level, count) / many, at = step * draw_share();
+    for (uint32_t i = 0; i < count; i++)
+        for (at -= level[i].weight; at < 0 && samples < MOST_SAMPLES; at += step)
+            memcpy(sample[samples++], level[i].cell, cells);
+}
+
+/* What a board is worth: to count each move that is to spare as twice the boards gives the least errors. */
+static void value(struct stand *it, int left)
+{
+    int most = 0;
+    for (int s = 0; s < sets; s++)
+        most = it->sum[s] > most ? it->sum[s] : most;
+    it->worth = ldexp(it->weight, left - most);
+}
+
+/* Keeps about so many boards: all that are worth more than some limit, and others by chance, which then stand for as much as that. */
+static uint32_t thin(struct stand *level, uint32_t count, uint32_t width)
+{
+    double limit = 0, before = -1;
+    while (limit != before) {
+        double small = 0;
+        uint32_t great = 0;
+        for (uint32_t i = 0; i < count; i++) {
+            great += level[i].worth >= limit && limit > 0;
+            small += level[i].worth >= limit && limit > 0 ? 0 : level[i].worth;
+        }
+        before = limit;
+        limit = great < width ? small / (width - great) : limit;
+    }
+    uint32_t kept = 0;
+    double at = limit * draw_share();
+    for (uint32_t i = 0; i < count; i++) {
+        int is_great = level[i].worth >= limit;
+        at -= is_great ? 0 : level[i].worth;
+        if (!is_great && at >= 0)
+            continue;
+        at += is_great ? 0 : limit;
+        level[kept] = level[i];
+        level[kept++].weight *= is_great ? 1 : limit / level[i].worth;
+    }
+    return kept;
+}
+
+/* Expands level by level, of each level about so many boards, each of which stands for those that were left out. */
 static void walk(const uint8_t *board, int fewer, uint32_t width, int at_level, int many)
 {
     static struct stand *level, *next;
@@ -418,9 +468,10 @@ static void walk(const uint8_t *board, int fewer, uint32_t width, int at_level, 
     for (int s = 0; s < sets; s++)
         if (level->sum[s] > left)
             count = 0;
-    double weight = 1, boards = 0, depths = 0;
+    double boards = 0, depths = 0;
+    level->weight = 1;
     for (int depth = 0; count && left > 0; depth++, left--) {
-        double here = weight * count;
+        double here = weight_of(level, count);
         boards += here;
         depths += here * depth;
         uint32_t made = 0;
@@ -428,19 +479,14 @@ static void walk(const uint8_t *board, int fewer, uint32_t width, int at_level, 
             for (int way = 0; way < WAYS; way++)
                 if (beside[level[i].blank][way] != NOWHERE && automaton[level[i].state][way] >= 0) {
                     next[made] = level[i];
-                    made += enter(&next[made], way, left - 1);
+                    if (enter(&next[made], way, left - 1))
+                        value(&next[made++], left - 1);
                 }
         if (many && (depth == at_level || !made))
             keep_samples(level, count, many);
         if ((many && depth == at_level) || here < boards * 1e-6)
             break;
-        count = made;
-        if (made > width) {
-            double step = (double)made / width, at = step * draw_share();
-            for (count = 0; count < width && at < made; count++, at += step)
-                next[count] = next[(uint32_t)at];
-            weight *= (double)made / count;
-        }
+        count = made > width ? thin(next, made, width) : made;
         struct stand *before = level;
         level = next;
         next = before;

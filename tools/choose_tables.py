@@ -9,8 +9,9 @@ time and memory, and whether choosing pays beside the tables of `--instead`. Nob
 tables, and its answers hold for all sets. For the same input the choice is the same.
 
 How: boards of the search are sampled at a third of the moves, the patterns are counted on them by A* over tables of three tiles, and
-of all partitions into connected patterns the one is taken whose sums are greatest on the mean. The survivors of that set are
-sampled for the next set, which is the one that leaves the fewest of them; a set's mirror image costs no memory, and is tried too.
+of all partitions into connected patterns the one is taken whose sums are greatest on the mean. The boards that this set leaves are
+sampled too, and it is chosen anew. The boards that it leaves are sampled for the next set, which is the one that leaves the fewest
+of them; a set's mirror image costs no memory, and is tried too.
 
 The kernel, choose_tables.c, is compiled by `cc` into `$XDG_CACHE_HOME/pdb_cli` or `~/.cache/pdb_cli`. With PDB_PROGRESS=1 or a
 terminal, standard error tells what is done. The status is 0, or 2 where the words or the claims are wrong.
@@ -35,7 +36,7 @@ MOST_TILES = {3: 8, 4: 8, 5: 6}
 KNOWN = {(5, 6): [4326, 25368, 3247104, 30277632]}
 # Processor time of `prove` in nanoseconds: to make an entry of a table, to check one, to make the words of one, and to expand a board
 # over so many sets by words, with four workers at work. A board over sums takes SLOWER times as long. A node of A* takes NODE.
-MAKE, CHECK, WORDS, SLOWER, NODE = 12, 20, 8, 3, 100
+MAKE, CHECK, WORDS, SLOWER, NODE = 12, 20, 8, 3, 1000
 EXPAND = [52, 80, 110]
 # Where only the board is given, a shortest solution is taken to have so many moves for one of the sums.
 STRETCH = 1.22
@@ -257,8 +258,7 @@ class Choice:
         return self.known[key]
 
     def sample(self, sets):
-        """Samples boards which the sets leave at a third of the moves; without sets the boards of the claims themselves."""
-        self.kernel.forget()
+        """Adds samples of the boards which the sets leave at a third of the moves; without sets the boards of the claims themselves."""
         for claim in self.claims:
             many = -(-self.options.samples // len(self.claims)) if sets else 1
             level = claim.fewer // LEVELS_OF_ALL if sets else 0
@@ -268,7 +268,9 @@ class Choice:
         return [parts, mirrored(parts, self.side)] if self.is_paired else [parts]
 
     def first(self):
-        """The best partition on the boards, then that on the survivors of it, and so on; of these the one that leaves the fewest."""
+        """The best partition on the boards, then that on these and the survivors of it, and so on; of these the one that leaves the
+        fewest. A set that is good on the survivors of one alone may be bad."""
+        self.kernel.forget()
         self.sample([])
         found = [self.kernel.best([], self.is_paired)]
         for _ in range(self.options.rounds):
@@ -280,6 +282,7 @@ class Choice:
 
     def more(self, sets):
         """A set more, that which leaves the fewest boards, or None where none has room."""
+        self.kernel.forget()
         self.sample(sets)
         parts = [self.kernel.best(sets, False), *(mirrored(parts, self.side) for parts in sets)]
         tried = [sets + [it] for it in parts if set(it) not in map(set, sets)]
@@ -330,7 +333,7 @@ def script(kernel, claims, sets, options):
     make, answer = seconds_of(side, plan.sizes, len(sets), total)
     yield f"# memory: {memory_of(side, plan.sizes) / 1e9:.2g} GB"
     yield f"# processor time: {duration(taken)} to choose, {duration(make)} to make the tables, {duration(answer)} to answer"
-    instead = options.instead or KNOWN.get((side, options.tiles))
+    instead = options.instead or (None if options.take else KNOWN.get((side, options.tiles)))
     if instead:
         yield compared(kernel, claims, instead, options, taken + make + answer)
     for place, mask in enumerate(plan.masks):
@@ -363,12 +366,13 @@ def options_of(words):
     parser.add_argument("--sets", type=int, default=2, help="how many sets at most (2)")
     parser.add_argument("--memory", type=float, default=6, help="GB of memory that a run may take (6)")
     parser.add_argument("--workers", type=int, default=4, help="workers, for the script that is written (4)")
+    parser.add_argument("--take", type=masks_of, help="masks of a set, with commas, to take it and its mirror image unchosen")
     parser.add_argument("--instead", type=masks_of, help="masks of a set, with commas, to compare with")
     parser.add_argument("--tables", nargs="*", default=[], metavar="FILE", help="tables that are there, to look their counts up")
-    parser.add_argument("--samples", type=int, default=60, help="how many boards the patterns are counted on (60)")
+    parser.add_argument("--samples", type=int, default=40, help="how many boards the patterns are counted on (40)")
     parser.add_argument("--width", type=int, default=300, help="boards of a level that stand for all (300)")
     parser.add_argument("--of", type=int, default=4, help="of how many claims the boards are looked at (4)")
-    parser.add_argument("--rounds", type=int, default=2, help="how often the first set is chosen anew (2)")
+    parser.add_argument("--rounds", type=int, default=3, help="how often the first set is chosen anew (3)")
     parser.add_argument("--most", type=float, default=1e10, help="a bare board's thresholds up to so many boards (1e10)")
     options = parser.parse_args(words)
     if min(options.tiles, options.sets, options.samples, options.width, options.of, options.workers) < 1 or options.rounds < 0:
@@ -388,7 +392,8 @@ def main():
         choice = Choice(kernel, claims, options)
         for claim in claims:
             claim.fewer = guess(kernel, claim) if claim.is_bare else claim.fewer
-        for line in script(kernel, claims, choice.choose(), options):
+        taken = [options.take, mirrored(options.take, side)][: options.sets] if options.take else choice.choose()
+        for line in script(kernel, claims, taken, options):
             print(line, flush=True)
     except (Mistake, OSError, UnicodeDecodeError) as mistake:
         print(f"choose_tables: {mistake}", file=sys.stderr)

@@ -58,8 +58,7 @@ for words in '--tiles 3 --sets 1' '--tiles 4' '--tiles 4 --memory 0.0001' '--til
     choose three $words
     check "the script of $words is the same again" cmp -s "$work/output" "chosen${words// /}"
 done
-check 'where a second set has room, it has tables of its own' [ "$(grep -c make-table 'chosen--tiles4')" = 4 ]
-check 'where it has none, it is the first set transposed' \
+check 'where a second set has no room, it is the first one transposed' \
     [ "$(grep -c make-table 'chosen--tiles4--memory0.0001').$(grep -c 'set 0 1.nset 0t 1t' 'chosen--tiles4--memory0.0001')" = 2.1 ]
 
 # What is expected is half of the boards at the least, and twice as many at the most.

@@ -23,7 +23,7 @@ INTRODUCTION = """\
 
 Each board here has a solution of so many moves, and none of fewer. `prove` says so, and that it says so only where it is true is [proved](../README.md#what-is-proved). The run that answers checks the tables too, whoever made them.
 
-The boards, and the lengths that the papers are said to give, were written down without the papers at hand. That `prove` finds just these lengths speaks for them; compare a board with its paper before you cite it as the paper's.
+The boards, and the lengths that the papers are said to give, were written down from memory, and none has been compared with its paper. That `prove` finds just these lengths speaks for them; compare a board with its paper before you cite it as the paper's.
 
 The blank is first in the goal board. `tools/claims/show_solution.py` shows the solutions of answers, move by move.
 """
@@ -45,7 +45,7 @@ The number of boards is that of the last search, which finds no shorter solution
 KORF_AND_FELNER = """\
 ## The 24-puzzle: {count} boards of Korf and Felner
 
-These are {count} of the fifty random boards of Korf and Felner (2002): those of which `prove` found a shortest solution within 1.5 billion boards. Their solutions have {least} to {most} moves. The files: [boards and moves](results/korf_felner_2002.claims), and [answers](results/korf_felner_2002.answers). The tables have 3.6 GB, and the run takes 4.9 GB:
+These are {count} of the fifty random boards of Korf and Felner (2002), with solutions of {least} to {most} moves. The files: [boards and moves](results/korf_felner_2002.claims), and [answers](results/korf_felner_2002.answers). The tables have 3.6 GB, and the run takes 4.9 GB:
 
 ```
 ./pdb_cli make-table 5 tiles:1,2,5,6,7,12 t0 --workers 4
@@ -57,7 +57,20 @@ printf 'set 0 1 2 3\\nset 0t 1t 2t 3t\\n' >sets
     diff - docs/results/korf_felner_2002.answers
 ```
 
-The last searches expand {boards} boards in all. Four idle processors expand 47 to 53 million a second ([SPEED](SPEED.md)).
+The last searches expand {boards} boards in all. {took}
+"""
+OPEN = """\
+### {count} that are open
+
+Nothing is proved here of these. Their boards, and the lengths that they are said to have, are [claims](results/korf_felner_2002_open.claims), in this order. Expected are the boards below that length over the tables above ([how](CHOOSING.md#how-good-the-estimates-are)). Tables that are chosen for a board save most of them. So each goes on, here the first:
+
+```
+sed -n 1p docs/results/korf_felner_2002_open.claims >claims
+tools/choose_tables.py claims >run.sh
+sh run.sh
+```
+
+Numbers 19 and 48 are left out: as they are remembered, they have no solution by parity.
 """
 # A search of fewer than 65,536 boards tells nothing while it runs.
 FEW = "few"
