@@ -457,8 +457,8 @@ static uint32_t thin(struct stand *level, uint32_t count, uint32_t width)
 static void walk(const uint8_t *board, int fewer, uint32_t width, int at_level, int many)
 {
     static struct stand *level, *next;
-    level = realloc(level, (WAYS * (size_t)width + 1) * sizeof *level);
-    next = realloc(next, (WAYS * (size_t)width + 1) * sizeof *next);
+    level = realloc(level, WAYS * ((size_t)width + 1) * sizeof *level);
+    next = realloc(next, WAYS * ((size_t)width + 1) * sizeof *next);
     if (!level || !next)
         fail("no memory", "");
     begin(level, board);

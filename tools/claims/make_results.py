@@ -57,12 +57,12 @@ printf 'set 0 1 2 3\\nset 0t 1t 2t 3t\\n' >sets
     diff - docs/results/korf_felner_2002.answers
 ```
 
-The last searches expand {boards} boards in all. {took}
+The last searches expand {boards} boards in all.
 """
 OPEN = """\
-### {count} that are open
+## {count} boards of Korf and Felner that are open
 
-Nothing is proved here of these. Their boards, and the lengths that they are said to have, are [claims](results/korf_felner_2002_open.claims), in this order. Expected are the boards below that length over the tables above ([how](CHOOSING.md#how-good-the-estimates-are)). Tables that are chosen for a board save most of them. So each goes on, here the first:
+Nothing is proved here of these. Below are the lengths that they are said to have, and how many boards [`tools/choose_tables.py`](CHOOSING.md) expects that the tables above leave of a search for fewer moves; chosen tables leave less. The [claims](results/korf_felner_2002_open.claims) stand in this order. So each goes on, here the first:
 
 ```
 sed -n 1p docs/results/korf_felner_2002_open.claims >claims
@@ -114,6 +114,25 @@ def table(shown, across):
         yield "| " + " | ".join(cells + [""] * (3 * across - len(cells))) + " |"
 
 
+def open_rows(name):
+    """The number, the moves and the expected boards of each claim that is open, by two files that agree."""
+    folder = ROOT / "docs" / "results"
+    claims = (folder / f"{name}.claims").read_text().splitlines()
+    with (folder / f"{name}.csv").open() as file:
+        counts = list(csv.DictReader(file))
+    if [it.rpartition(" : ")[2] for it in claims] != [it["moves"] for it in counts]:
+        sys.exit(f"{name}: the claims and the counts are not of the same boards")
+    for count in counts:
+        yield count["number"], int(count["moves"]), f"{int(count['boards']):,}"
+
+
+def open_section(name, text, across):
+    shown = list(open_rows(name))
+    print()
+    print(text.format(count=len(shown)))
+    print("\n".join(table(shown, across)))
+
+
 def section(name, text, across):
     shown = list(rows(name))
     moves = [it for _, it, _ in shown]
@@ -127,6 +146,7 @@ def main():
     print(INTRODUCTION, end="")
     section("korf_1985", KORF, 4)
     section("korf_felner_2002", KORF_AND_FELNER, 2)
+    open_section("korf_felner_2002_open", OPEN, 2)
 
 
 main()
