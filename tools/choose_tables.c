@@ -209,13 +209,9 @@ static struct heap {
     uint32_t count, most;
 } heap[NEVER + 1];
 
-static void put(uint64_t key, int moves, int sum)
+static void open_node(uint32_t node, int moves, int least)
 {
-    uint32_t node = node_of(key);
-    if (nodes[node].moves <= moves)
-        return;
-    nodes[node].moves = moves;
-    struct heap *it = &heap[moves + sum];
+    struct heap *it = &heap[least];
     if (it->count == it->most) {
         it->most = it->most ? 2 * it->most : 1024;
         it->open = realloc(it->open, it->most * sizeof *it->open);
@@ -225,10 +221,13 @@ static void put(uint64_t key, int moves, int sum)
     it->open[it->count++] = (struct open){node, moves};
 }
 
-static void put_neighbours(const struct pattern *p, const struct split *split, uint64_t key, int moves, int least)
+/* Opens the neighbours of a node by which the count may be `least`, and the node itself once more for those by which it is more. */
+static void expand(const struct pattern *p, const struct split *split, uint32_t node, int moves, int least)
 {
+    const uint64_t key = nodes[node].key;
     uint8_t cell[MOST_TILES];
     set taken = 0;
+    int later = NEVER;
     for (int i = 0; i < p->size; i++) {
         cell[i] = key >> (4 + 5 * i) & 31;
         taken |= only(cell[i]);
@@ -240,12 +239,21 @@ static void put_neighbours(const struct pattern *p, const struct split *split, u
             if (now.number[free] != (key & 15))
                 continue;
             cell[i] = free;
-            int sum = sum_of(split, cell);
+            int count = moves + 1 + sum_of(split, cell);
             cell[i] = from;
+            if (count > least) {
+                later = count < later ? count : later;
+                continue;
+            }
             uint64_t next = (key & ~(uint64_t)15) ^ (uint64_t)(from ^ free) << (4 + 5 * i);
-            next |= regions_of(taken ^ only(from) ^ only(free))->number[from];
-            put(next, moves + 1, sum + moves + 1 < least ? least - moves - 1 : sum);
+            uint32_t other = node_of(next | regions_of(taken ^ only(from) ^ only(free))->number[from]);
+            if (nodes[other].moves > moves + 1) {
+                nodes[other].moves = moves + 1;
+                open_node(other, moves + 1, least);
+            }
         }
+    if (later < NEVER)
+        open_node(node, moves, later);
 }
 
 /* The count, or, where too many nodes would be looked at, one that is no greater. */
@@ -269,7 +277,9 @@ static int count_by_search(const struct pattern *p, uint64_t key)
     memset(slot, 0, (slot_mask + 1) * sizeof *slot);
     for (int f = 0; f <= NEVER; f++)
         heap[f].count = 0;
-    put(key, 0, least);
+    uint32_t first = node_of(key);
+    nodes[first].moves = 0;
+    open_node(first, 0, least);
     while (least < NEVER - 1 && node_count < MOST_NODES) {
         struct heap *it = &heap[least];
         if (!it->count) {
@@ -281,7 +291,7 @@ static int count_by_search(const struct pattern *p, uint64_t key)
         if (nodes[open.node].key == goal)
             return open.moves;
         if (nodes[open.node].moves == open.moves)
-            put_neighbours(p, &split, nodes[open.node].key, open.moves, least);
+            expand(p, &split, open.node, open.moves, least);
     }
     return least;
 }
