@@ -22,6 +22,7 @@ import hashlib
 import os
 import pathlib
 import re
+import shlex
 import struct
 import subprocess
 import sys
@@ -36,7 +37,7 @@ MOST_TILES = {3: 8, 4: 8, 5: 6}
 KNOWN = {(5, 6): [4326, 25368, 3247104, 30277632]}
 # Processor time of `prove` in nanoseconds: to make an entry of a table, to check one, to make the words of one, and to expand a board
 # over so many sets by words, with four workers at work. A board over sums takes SLOWER times as long. A node of A* takes NODE.
-MAKE, CHECK, WORDS, SLOWER, NODE = 12, 20, 8, 3, 400
+MAKE, CHECK, WORDS, SLOWER, NODE = 40, 20, 8, 3, 400
 EXPAND = [52, 80, 110]
 # Where only the board is given, a shortest solution is taken to have so many moves for one of the sums.
 STRETCH = 1.22
@@ -341,7 +342,7 @@ def script(kernel, claims, sets, options):
         yield f"./pdb_cli make-table {side} tiles:{tiles} t{place} --workers {options.workers}"
     yield "printf '{}\\n' >sets".format(plan.text.replace("\n", "\\n"))
     names = " ".join(f"t{place}" for place in range(len(plan.masks)))
-    yield f"./pdb_cli prove {options.claims} sets {names} --workers {options.workers}"
+    yield f"./pdb_cli prove {shlex.quote(options.claims)} sets {names} --workers {options.workers}"
 
 
 def compared(kernel, claims, parts, options, chosen):
