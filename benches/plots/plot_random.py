@@ -1,9 +1,7 @@
 #!/usr/bin/env python3
 """Draws docs/random.svg: how many boards it takes to prove that a known solution of a random board of the 24-puzzle is shortest, by
-share of random boards. The known ones are those of Korf and Felner's fifty that docs/results has, drawn as the first of fifty: each
-other took `prove` more than 1.5 billion boards when its solution was to be found too. The others are estimates for thirty random
-boards, in benches/plots/random_boards.csv, for which levels of the search trees were sampled evenly. Times of one core are at 85 ns a
-board. The axes of boards and times are logarithmic.
+share of the boards that docs/results has of Korf and Felner's fifty: those that are proved, as they were counted, and those that are
+open, as tools/choose_tables.py expects them. Times of one core are at 85 ns a board. The axes of boards and times are logarithmic.
 
     benches/plots/plot_random.py
 """
@@ -16,7 +14,6 @@ WIDTH, HEIGHT, LEFT, RIGHT, TOP, BOTTOM = 720, 420, 90, 90, 40, 60
 LEAST, MOST = 1e6, 1e12
 NANOSECONDS = 85
 KNOWN, ESTIMATED = "#1b6ca8", "#d1731b"
-FIFTY = 50
 
 
 def across(share):
@@ -56,34 +53,34 @@ def grid():
     for tenth in range(0, 11, 2):
         yield line(across(tenth / 10), TOP, across(tenth / 10), HEIGHT - BOTTOM)
         yield text(across(tenth / 10), HEIGHT - BOTTOM + 20, f"{10 * tenth} percent")
-    yield text((LEFT + WIDTH - RIGHT) / 2, HEIGHT - 12, "share of random boards that take at most so many")
+    yield text((LEFT + WIDTH - RIGHT) / 2, HEIGHT - 12, "share of the boards that take at most so many")
     yield text(WIDTH - RIGHT + 8, TOP - 14, "of one core", "start")
 
 
 def legend():
     yield disc(LEFT + 20, TOP + 14, KNOWN)
-    yield text(LEFT + 34, TOP + 18, "proved: boards of Korf and Felner (2002)", "start")
+    yield text(LEFT + 34, TOP + 18, "proved, of the boards of Korf and Felner (2002)", "start")
     yield square(LEFT + 20, TOP + 36, ESTIMATED)
-    yield text(LEFT + 34, TOP + 40, "estimated, of 30 random boards", "start")
+    yield text(LEFT + 34, TOP + 40, "expected of those that are open", "start")
 
 
 def main():
-    folder = pathlib.Path(__file__).resolve().parent
-    with (folder.parents[1] / "docs/results/korf_felner_2002.csv").open() as file:
-        known = sorted(int(row["boards"]) for row in csv.DictReader(file))
-    with (folder / "random_boards.csv").open() as file:
-        estimated = [(float(row["share"]), float(row["boards"])) for row in csv.DictReader(file)]
+    folder = pathlib.Path(__file__).resolve().parents[2] / "docs"
+    marks = []
+    for name, mark, colour in ("", disc, KNOWN), ("_open", square, ESTIMATED):
+        with (folder / f"results/korf_felner_2002{name}.csv").open() as file:
+            marks += [(float(row["boards"]), mark, colour) for row in csv.DictReader(file)]
+    marks.sort(key=lambda it: it[0])
     drawn = [
         f'<svg xmlns="http://www.w3.org/2000/svg" width="{WIDTH}" height="{HEIGHT}" viewBox="0 0 {WIDTH} {HEIGHT}"'
         ' font-family="sans-serif" font-size="12">',
         f'<rect width="{WIDTH}" height="{HEIGHT}" fill="white"/>',
         *grid(),
-        *(disc(across(place / FIFTY), down(boards), KNOWN) for place, boards in enumerate(known, 1)),
-        *(square(across(share), down(boards), ESTIMATED) for share, boards in estimated),
+        *(mark(across(place / len(marks)), down(boards), colour) for place, (boards, mark, colour) in enumerate(marks, 1)),
         *legend(),
         "</svg>",
     ]
-    (folder.parents[1] / "docs/random.svg").write_text("\n".join(drawn) + "\n")
+    (folder / "random.svg").write_text("\n".join(drawn) + "\n")
 
 
 main()

@@ -27,6 +27,7 @@ output solve check_work.sh
 status prove check_work.sh
 output solve check_tour.sh
 output prove check_tour.sh
+output prove check_choose.sh
 output prove check_prove.py --every 100000
 status table try_hostile.py --inputs 10 --program
 output parts try_hostile.py --inputs 10 --program'

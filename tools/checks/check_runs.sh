@@ -1254,6 +1254,8 @@ check 'docs/RESULTS.md says what docs/results has' cmp -s "$work/output" "$root/
 "$root/tools/claims/show_solution.py" --svg "$work/output" <<<'0 3 2 4 1 8 7 6 5 ; RDDRUULLDRDLUURRDLLU' 2>"$work/errors"
 check 'the picture of README.md is what tools/claims/show_solution.py draws' cmp -s "$work/output" "$root/docs/solution.svg"
 
+passes 'tables are chosen for claims and moves found for boards, by which the program answers' check_choose.sh "$bare"
+
 #
 # The tour.
 #

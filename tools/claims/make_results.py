@@ -23,7 +23,7 @@ INTRODUCTION = """\
 
 Each board here has a solution of so many moves, and none of fewer. `prove` says so, and that it says so only where it is true is [proved](../README.md#what-is-proved). The run that answers checks the tables too, whoever made them.
 
-The boards, and the lengths that the papers are said to give, were written down without the papers at hand. That `prove` finds just these lengths speaks for them; compare a board with its paper before you cite it as the paper's.
+The boards, and the lengths that the papers are said to give, were written down from memory, and none has been compared with its paper. That `prove` finds just these lengths speaks for them; compare a board with its paper before you cite it as the paper's.
 
 The blank is first in the goal board. `tools/claims/show_solution.py` shows the solutions of answers, move by move.
 """
@@ -43,7 +43,7 @@ printf 'set 0 1 2\\nset 0t 1t 2t\\n' >sets
 KORF_AND_FELNER = """\
 ## The 24-puzzle: {count} boards of Korf and Felner
 
-These are {count} of the fifty random boards of Korf and Felner (2002): those of which `prove` found a shortest solution within 1.5 billion boards. Their solutions have {least} to {most} moves. The files: [boards and moves](results/korf_felner_2002.claims), and [answers](results/korf_felner_2002.answers). The tables have 3.6 GB, and the run takes 4.9 GB:
+These are {count} of the fifty random boards of Korf and Felner (2002), with solutions of {least} to {most} moves. The files: [boards and moves](results/korf_felner_2002.claims), and [answers](results/korf_felner_2002.answers). The tables have 3.6 GB, and the run takes 4.9 GB:
 
 ```
 ./pdb_cli make-table 5 tiles:1,2,5,6,7,12 t0 --workers 4
@@ -55,7 +55,20 @@ printf 'set 0 1 2 3\\nset 0t 1t 2t 3t\\n' >sets
     diff - docs/results/korf_felner_2002.answers
 ```
 
-The number of boards is that of the last search. All together expand {boards}; [SPEED](SPEED.md) says how fast.
+The last searches expand {boards} boards in all.
+"""
+OPEN = """\
+## {count} boards of Korf and Felner that are open
+
+Nothing is proved here of these. Below are the lengths that they are said to have, and how many boards [`tools/choose_tables.py`](CHOOSING.md) expects that the tables above leave of a search for fewer moves; chosen tables leave less. The [claims](results/korf_felner_2002_open.claims) stand in this order. So each goes on, here the first:
+
+```
+sed -n 1p docs/results/korf_felner_2002_open.claims >claims
+tools/choose_tables.py claims >run.sh
+sh run.sh
+```
+
+Numbers 19 and 48 are left out: as they are remembered, they have no solution by parity.
 """
 # A search of fewer than 65,536 boards tells nothing while it runs.
 FEW = "few"
@@ -108,6 +121,25 @@ def lengths(shown):
         yield f"| {row[0][0]} to {row[-1][0]} | {' '.join(str(moves) for _, moves, _ in row)} |"
 
 
+def open_rows(name):
+    """The number, the moves and the expected boards of each claim that is open, by two files that agree."""
+    folder = ROOT / "docs" / "results"
+    claims = (folder / f"{name}.claims").read_text().splitlines()
+    with (folder / f"{name}.csv").open() as file:
+        counts = list(csv.DictReader(file))
+    if [it.rpartition(" : ")[2] for it in claims] != [it["moves"] for it in counts]:
+        sys.exit(f"{name}: the claims and the counts are not of the same boards")
+    for count in counts:
+        yield count["number"], int(count["moves"]), f"{int(count['boards']):,}"
+
+
+def open_section(name, text, across):
+    shown = list(open_rows(name))
+    print()
+    print(text.format(count=len(shown)))
+    print("\n".join(table(shown, across)))
+
+
 def section(name, text, lines_of):
     shown = list(rows(name))
     moves = [it for _, it, _ in shown]
@@ -121,6 +153,7 @@ def main():
     print(INTRODUCTION, end="")
     section("korf_1985", KORF, lengths)
     section("korf_felner_2002", KORF_AND_FELNER, lambda shown: table(shown, 2))
+    open_section("korf_felner_2002_open", OPEN, 2)
 
 
 main()
