@@ -61,7 +61,7 @@ fn a_file_that_is_spared_is_named(rt: HostRuntime) -> Result<(), Fail> {
 
 #[test]
 fn beginnings_of_files(rt: HostRuntime) {
-    let cases: [(&[u8], Beginning); 8] = [
+    let cases: [(&[u8], Beginning); 9] = [
         (b"PDBT\x01\x02", Beginning::OfTable),
         (b"PDBL", Beginning::OfLog),
         (b"PDB", Beginning::OfAny),
