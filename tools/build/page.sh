@@ -73,8 +73,8 @@ provide_program() {
         export TMPDIR=$room/copy && cd -- "$room/copy" && unset RT_ALLOW_C RT_BACKEND && take_libraries || exit
         build_copy &
         compile_copy "$!" && wait "$!" || exit
-        # (behind what is linked stands a line on the sources)
-        cmp -s -- pdb_cli <(head -n -1 -- "$program") ||
+        # (behind what is linked stands a line of 73 bytes on the sources)
+        cmp -s -- pdb_cli <(head -c -73 -- "$program") ||
             say 'the text is not that of the proved program: remove out/proved and crates/*/out, and run .ci/run'
     ) && (umask 077 && mkdir -p -- "$store") && find "$store" -name '*.o' -mtime +7 -delete &&
         cp -- "$room/copy/program.o" "$new" && mv -- "$new" "$object"
