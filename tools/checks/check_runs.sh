@@ -1197,12 +1197,14 @@ check 'a table is told while it is made and while it is checked' told_kinds \
 rm made tiles_1_to_4 tiles_5_to_8 sets board_of_3
 
 # Before the paces of a search of a claim comes where the blank is at home: on side 3 a board has a solution with the blank last where it
-# has one with the blank first. Each search tells its pace, and no shares. In the end the claim is told, and all of them.
+# has one with the blank first. Each search tells its pace, and no shares. Before it is searched for anew, over edge words, and in the
+# end the claim is told; and then all of them.
 told_paces_alone() {
+    local pace='pdb_cli: claim 0, below [0-9]+: [0-9]+ boards, [0-9]+ a second'
+    local effort='pdb_cli: claim 0: [0-9]+ boards in [0-9]+\.[0-9] seconds, [0-9]+ a second'
     [ "$(head -n 1 "$work/errors")" = "$blank_first" ] && tail -n +2 "$work/errors" >"$work/paces" &&
-        grep -Eqx 'pdb_cli: claim 0, below [0-9]+: [0-9]+ boards, [0-9]+ a second' "$work/paces" &&
-        ! head -n -2 "$work/paces" | grep -Evqx 'pdb_cli: claim 0, below [0-9]+: [0-9]+ boards, [0-9]+ a second' &&
-        tail -n 2 "$work/paces" | head -n 1 | grep -Eqx 'pdb_cli: claim 0: [0-9]+ boards in [0-9]+\.[0-9] seconds, [0-9]+ a second' &&
+        grep -Eqx "$pace" "$work/paces" && ! head -n -2 "$work/paces" | grep -Evqx "$pace|$effort" &&
+        [ "$(grep -Ecx "$effort" "$work/paces")" = 2 ] && tail -n 2 "$work/paces" | head -n 1 | grep -Eqx "$effort" &&
         [ "$(tail -n 1 "$work/paces")" = 'pdb_cli: 1 claim: 1 bound' ]
 }
 echo '8 0 6 5 4 7 2 3 1 : 29' >claims
