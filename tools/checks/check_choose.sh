@@ -35,8 +35,9 @@ for line in lines:
 END_OF_PYTHON
 }
 
-# Whether the script $1 answers by this line behind its digests.
+# Whether the script $1 answers by this line behind its digests, where no tables of another script are in the way.
 answers() {
+    rm -f t[0-9]*
     [ "$(bash "$1" 2>"$work/errors" | tail -n 1)" = "$2" ]
 }
 

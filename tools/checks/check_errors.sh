@@ -432,14 +432,14 @@ while read -r name words; do
     usage[$name]="pdb_cli $words"
 done <<'END'
 pdb_cli [COMMAND]
-replay replay [FILE]
+replay replay [--goal first|last] [FILE]
 table table [--workers N] FILE
-bound bound [--workers N] [--fold] BOARD SETS LOG TABLES..
-optimal optimal [--workers N] [--fold] PUZZLE SETS LOG TABLES..
+bound bound [--workers N] [--fold] [--goal first|last] BOARD SETS LOG TABLES..
+optimal optimal [--workers N] [--fold] [--goal first|last] PUZZLE SETS LOG TABLES..
 make-table make-table [--workers N] [--replace] SIDE MASK OUT
-solve solve [--workers N] [--fold] [--budget N] [--replace] BOARD SETS OUT TABLES..
-prove prove [--workers N] [--fold] [--budget N] CLAIMS SETS TABLES..
-parts parts BOARD N K ANSWERS..
+solve solve [--workers N] [--fold] [--goal first|last] [--budget N] [--replace] BOARD SETS OUT TABLES..
+prove prove [--workers N] [--fold] [--goal first|last] [--budget N] CLAIMS SETS TABLES..
+parts parts [--goal first|last] BOARD N K ANSWERS..
 END
 
 # Whether a help shows how its command is used, and lists these flags and no others.
