@@ -62,7 +62,7 @@ The last searches expand {boards} boards in all. Two runs over these tables wrot
 OPEN = """\
 ## {count} boards of Korf and Felner that are open
 
-Nothing is proved here of these. Below are the lengths that they are said to have, and how many boards [`tools/choose_tables.py`](CHOOSING.md) expects that the tables above leave of a search for fewer moves; chosen tables leave less. The [claims](results/korf_felner_2002_open.claims) stand in this order. So each goes on, here the first:
+Nothing is proved here of these. Below are the lengths that they are said to have, and how many boards [`tools/choose_tables.py`](CHOOSING.md) expects that the tables above leave of a search for fewer moves; chosen tables may leave less. The [claims](results/korf_felner_2002_open.claims) stand in this order. So each goes on, here the first:
 
 ```
 sed -n 1p docs/results/korf_felner_2002_open.claims >claims
