@@ -55,12 +55,12 @@ printf 'set 0 1 2 3\\nset 0t 1t 2t 3t\\n' >sets
     diff - docs/results/korf_felner_2002.answers
 ```
 
-The last searches expand {boards} boards in all.
+The last searches expand {boards} boards in all. Two runs over these tables wrote the answers, the second those of numbers 4, 6, 13, 26, 27 and 31, beside other work; they stand here as one run writes them. The count of number 6 is rounded. The second took 19 minutes of processor time, by two workers under load.
 """
 OPEN = """\
 ## {count} boards of Korf and Felner that are open
 
-Nothing is proved here of these. Below are the lengths that they are said to have, and how many boards [`tools/choose_tables.py`](CHOOSING.md) expects that the tables above leave of a search for fewer moves; chosen tables leave less. The [claims](results/korf_felner_2002_open.claims) stand in this order. So each goes on, here the first:
+Nothing is proved here of these. Below are the lengths that they are said to have, and how many boards [`tools/choose_tables.py`](CHOOSING.md) expects that the tables above leave of a search for fewer moves; chosen tables may leave less. The [claims](results/korf_felner_2002_open.claims) stand in this order. So each goes on, here the first:
 
 ```
 sed -n 1p docs/results/korf_felner_2002_open.claims >claims
