@@ -55,7 +55,7 @@ printf 'set 0 1 2 3\\nset 0t 1t 2t 3t\\n' >sets
     diff - docs/results/korf_felner_2002.answers
 ```
 
-The last searches expand {boards} boards in all. Two runs over these tables wrote the answers, the second those of numbers 4, 6, 13, 26, 27 and 31, beside other work; they stand here as one run writes them. The count of number 6 is rounded. The second took 19 minutes of processor time, by two workers under load.
+The last searches expand {boards} boards in all. The count of number 6 is rounded. One run wrote all these answers, in 17 minutes and 23 minutes of processor time, by four workers beside other work.
 """
 OPEN = """\
 ## {count} boards of Korf and Felner that are open
