@@ -479,7 +479,7 @@ class Program:
         written, errors = (folder / ".out").read_bytes(), (folder / ".err").read_bytes()
         left = {path.name: path.read_bytes() for path in folder.iterdir() if path.name not in STREAMS}
         shutil.rmtree(folder)
-        if re.fullmatch(SKIPPED if status == 0 else rb"(%b)?%b|pdb_cli: .*\n" % (SKIPPED, ENDED), errors):
+        if re.fullmatch(SKIPPED if status == 0 else rb"(%b)?(%b)?|pdb_cli: .*\n" % (SKIPPED, ENDED), errors):
             # It says why the answer is no yes.
             errors = b""
         return Ended(written, status, left, MISTAKE if errors.startswith(MISTAKE) else errors)
