@@ -57,6 +57,7 @@ t6|PDBT\x01\x02\x03\0\0\0\0\x0e\0\0\0\0\0\0\0\x18
 q1|3 2 1 0\n3 2 1 0 : 06\n
 q2|3 2 1 0\n0 1 2 3 4 5 6 7 8 : 0\n
 refused_claims|3 2 1 0\n0 1 3 2\n
+goal_board|0 1 2 3\n
 END
 { cat m3_front && printf 'RL%.0s' {1..500} && echo R; } >m3
 yes 'set 0' | head -n 17 >seventeen_lines
@@ -138,7 +139,8 @@ refused K4|SIDE and MASK are no pattern: 1 to 3 tiles on side 2, to 8 on sides 3
 refused Q1 at line 1|q1: line 1 is none of `BOARD`, `BOARD ; MOVES`, `BOARD : N` and `BOARD : N part I/K`. At column 11: a bound is a number from 0 to 255, with no zeros before it|prove q1 one_set F12
 refused Q1 at line 1|standard input: line 1 is none of `BOARD`, `BOARD ; MOVES`, `BOARD : N` and `BOARD : N part I/K`. At column 11: a bound is a number from 0 to 255, with no zeros before it|<q1 prove - one_set F12
 refused Q2 at line 1|q2: the board of line 1 is of another side than the tables|prove q2 one_set F12
-refused K2 of 0 1 3 2||prove refused_claims one_set F12
+refused K2 of 0 1 3 2|boards that have no solution, but one with the blank last: 1: --goal last|prove refused_claims one_set F12
+refused K2 of 0 1 2 3 with the blank last||prove goal_board one_set F12 --goal last
 refused M4 of 1 0 2 3 ; LR||prove m4 one_set F12
 refused K1 of 3 2 1 0||prove board one_set F12 --budget 1
 3 2 1 0 : 6 part 0/1||parts board 6 1 /dev/null

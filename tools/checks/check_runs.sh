@@ -1221,6 +1221,10 @@ done
 status=0
 PDB_PROGRESS=1 "$bare" prove false_claims one_set F12 >"$work/output" 2>"$work/errors" || status=$?
 check 'how many claims were answered how' [ "$status.$(tail -n 1 "$work/errors")" = '1.pdb_cli: 13 claims: 1 bound, 12 refused' ]
+status=0
+PDB_PROGRESS=1 "$bare" prove - one_set three_of_side_3 <<<'1 0 2 3 4 5 6 7 8' >"$work/output" 2>"$work/errors" || status=$?
+check 'and of claims on standard input behind the answers where the blank is at home' \
+    [ "$status.$(cat "$work/errors")" = "0.$blank_first"$'\n''pdb_cli: 1 claim: 1 optimal' ]
 
 #
 # Changed inputs.

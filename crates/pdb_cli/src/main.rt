@@ -6,16 +6,14 @@ use byte_io::watched::Watched;
 use pdb_early::{Look, fault_ahead, may_be_last, takes_long};
 use pdb_program::{ArgumentFault, ProgramCall, ReadArguments, RunHost, start};
 use pdb_progress::{Watch, checked_files, is_asked_for};
-use pdb_reason::{Beginning, Reason, Summary};
+use pdb_reason::{Beginning, Reason, SolvableLast, Summary};
 use pdb_request::Request;
-use pdb_run::{Beside, Cause, Status};
+use pdb_run::{Beside, Cause, Ended, Status, Tally};
 use pdb_verdict::Fault;
-use std::alloc::Global;
 use std::env::Env;
 use std::fs::File;
 use std::io::{Read, Write};
 use std::process::ExitCode;
-use std::rt::Files;
 use std::{env, fs, io, str};
 
 /// The system lets no argument take more bytes.
@@ -76,15 +74,6 @@ fn tell_reason<'n>(
     rt.eprintln(if is_ahead { reason.ahead() } else { reason })
 }
 
-/// The refusal that the starts of the files show before the run begins, where the run may take long.
-#[inline(never)] // so that the stack hasn't its values while the run is on
-fn fault_before<R: Files>(rt: &R, alloc: Global, asked: &Request<'_>) -> Option<Fault> {
-    if !takes_long(rt, asked) {
-        return None;
-    }
-    fault_ahead(&Look { alloc, files: rt }, asked)
-}
-
 /// How long the line is that a build writes at the end of the program's file.
 const SOURCES_LINE: usize = 73;
 
@@ -115,16 +104,47 @@ fn asks_for_version(all: &Result<Vec<String>, ArgumentFault>) -> bool {
 /// What is said of a board that may be meant to have the blank last at home, where progress is told.
 const BLANK_FIRST: &str = "pdb_cli: home has the blank first: --goal last has it last";
 
-/// Tells where the blank is at home, where that may be missed.
+/// Tells what is known before a run that does what was asked: a refusal that is to come, and where the blank is at home, where that
+/// may be missed. The run goes on, whether this can be told or not.
 #[inline(never)] // so that the stack hasn't its values while the run is on
-fn tell_goal(rt: &HostRuntime, asked: &Request<'_>) {
+fn tell_before(rt: &HostRuntime, asked: &Request<'_>) {
     let look = Look {
         alloc: rt.alloc(),
         files: rt,
     };
+    if takes_long(rt, asked)
+        && let Some(fault) = fault_ahead(&look, asked)
+    {
+        let _ = tell_reason(rt, asked, Cause::Refused(fault), Beside::Nothing, true);
+    }
     if is_asked_for(rt) && may_be_last(&look, asked) {
         let _ = rt.eprintln(BLANK_FIRST);
     }
+}
+
+/// Tells what is to be told of a run that has ended. Nobody is left to be told that standard error failed.
+fn tell_after<'n>(rt: &HostRuntime, asked: &Request<'n>, ended: &Ended<'n, Fault>) {
+    if let Some(why) = ended.why {
+        let _ = tell_reason(rt, asked, why, ended.beside, false);
+    }
+    if let Beside::Tally(tally) = ended.beside {
+        tell_tally(rt, asked, tally);
+    }
+}
+
+/// Tells how claims were answered, and where the blank was at home, where that may be missed.
+fn tell_tally(rt: &HostRuntime, asked: &Request<'_>, tally: Tally) {
+    if tally.solvable_last > 0 {
+        let _ = rt.eprintln(SolvableLast(tally.solvable_last));
+    }
+    if !is_asked_for(rt) {
+        return;
+    }
+    let is_from_input = matches!(asked, Request::Prove(prove) if prove.claims.is_none());
+    if is_from_input && tally.may_be_last {
+        let _ = rt.eprintln(BLANK_FIRST);
+    }
+    let _ = rt.eprintln(Summary(tally));
 }
 
 /// The files that the run checks, in order, where they are to be told and can be.
@@ -149,14 +169,8 @@ fn main(rt: HostRuntime) -> ExitCode {
         Err(fault) => Err(*fault),
     };
     let asked = read.as_ref().ok().and_then(|read| read.asked.as_ref());
-    if let Some(asked) = asked
-        && let Some(fault) = fault_before(&rt, rt.alloc(), asked)
-    {
-        // The run goes on, whether this is told or not.
-        let _ = tell_reason(&rt, asked, Cause::Refused(fault), Beside::Nothing, true);
-    }
     if let Some(asked) = asked {
-        tell_goal(&rt, asked);
+        tell_before(&rt, asked);
     }
     let gate = Watch::asked_for(&rt, files_to_tell(&rt, asked));
     let call = ProgramCall {
@@ -169,14 +183,8 @@ fn main(rt: HostRuntime) -> ExitCode {
     };
     let ended = start(call, &mut shelf, &mut reader, &mut out, &mut err);
     gate.ends_claim();
-    if let (Some(asked), Some(why)) = (asked, ended.why) {
-        // Nobody is left to be told that standard error failed.
-        let _ = tell_reason(&rt, asked, why, ended.beside, false);
-    }
-    if let Beside::Tally(tally) = ended.beside
-        && is_asked_for(&rt)
-    {
-        let _ = rt.eprintln(Summary(tally));
+    if let Some(asked) = asked {
+        tell_after(&rt, asked, &ended);
     }
     if ended.why.is_none() && asks_for_version(&all) && tell_sources(&rt).is_err() {
         return ExitCode::from(Status::Fault.code());

@@ -7,7 +7,7 @@ use crate::sets::sets_fault;
 use claim_text::{Claim, read_claims};
 use log_check::LogRefusal;
 use pdb_request::{LogCheck, LogClaim, Prove, Request, Solve};
-use pdb_verdict::{Fault, begin_claim};
+use pdb_verdict::{Fault, begin_claim, is_solvable_last};
 use puz_board::{Board, Side, is_solvable};
 use puz_goal::Goal;
 use std::alloc::Global;
@@ -83,7 +83,7 @@ pub fn may_be_last<R: Files>(look: &Look<'_, R>, asked: &Request<'_>) -> bool {
         Board::read(text).ok()
     };
     match first() {
-        Some(board) => asked.goal() == Goal::First && is_solvable(&Goal::Last.board_for(&board)),
+        Some(board) => is_solvable_last(asked.goal(), &board),
         None => false,
     }
 }

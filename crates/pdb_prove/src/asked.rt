@@ -23,7 +23,7 @@ use claim_text::{
 };
 use move_strings::Automaton;
 use pdb_run::{AnswerLines, Io, Tally};
-use pdb_verdict::{Fault, line_of};
+use pdb_verdict::{Fault, is_solvable_last, is_solvable_last_alone, line_of};
 use puz_goal::Goal;
 use puz_search::Letters;
 use puz_walk::Start;
@@ -83,6 +83,11 @@ impl<'c> Asked<'c> {
             bounds: 0,
             parts: 0,
             refused: 0,
+            solvable_last: 0,
+            may_be_last: claims
+                .as_slice()
+                .first()
+                .is_some_and(|claim| is_solvable_last(goal, &claim.board)),
         };
         let reversals = Automaton::of_reversals(alloc, bundle.side())?;
         let mut starts = Vec::new(alloc);
@@ -139,13 +144,13 @@ impl<'c> Asked<'c> {
         self.told += 1;
         self.is_yes &= found.is_yes();
         self.refused = found.refusal();
-        self.tally = counted(self.tally, found);
+        self.tally = counted(self.tally, self.goal, claim, found);
         Ok(())
     }
 }
 
 /// With one claim more, for which this is found.
-fn counted(tally: Tally, found: &Finding) -> Tally {
+fn counted(tally: Tally, goal: Goal, claim: &Claim<'_>, found: &Finding) -> Tally {
     match found {
         Finding::Bound => Tally {
             bounds: tally.bounds.saturating_add(1),
@@ -157,6 +162,11 @@ fn counted(tally: Tally, found: &Finding) -> Tally {
         },
         Finding::Optimum(_) | Finding::Shortest(..) => Tally {
             optima: tally.optima.saturating_add(1),
+            ..tally
+        },
+        Finding::Refused(Fault::K2) if is_solvable_last_alone(goal, &claim.board) => Tally {
+            refused: tally.refused.saturating_add(1),
+            solvable_last: tally.solvable_last.saturating_add(1),
             ..tally
         },
         Finding::Shorter(_) | Finding::Refused(_) => Tally {

@@ -1,6 +1,7 @@
 //! What a file begins with.
 
-use puz_board::{Board, is_solvable};
+use pdb_verdict::is_solvable_last_alone;
+use puz_board::Board;
 use puz_goal::Goal;
 use std::str;
 
@@ -51,7 +52,7 @@ impl Beginning {
 fn is_solved_last(bytes: &[u8]) -> bool {
     let text = bytes.split(|byte| *byte == b';').next().unwrap_or(b"");
     match Board::read(text) {
-        Ok(board) => !is_solvable(&board) && is_solvable(&Goal::Last.board_for(&board)),
+        Ok(board) => is_solvable_last_alone(Goal::First, &board),
         Err(_) => false,
     }
 }

@@ -33,6 +33,18 @@ impl Display for Summary {
     }
 }
 
+/// How many refused boards have a solution with the blank last alone. It is shown as the line that tells it.
+#[derive(Clone, Copy, Debug, PartialEq, Eq)]
+pub struct SolvableLast(pub usize);
+
+impl Display for SolvableLast {
+    fn fmt<W: fmt::Write>(&self, f: &mut Formatter<W>) -> fmt::Result {
+        let count = self.0;
+        f.write_str("pdb_cli: boards that have no solution, but one with the blank last: ")?;
+        write!(f, "{count}: --goal last")
+    }
+}
+
 /// Writes how many answers of a kind there are, if any, behind what parts them from those before; and returns what parts the next.
 fn write_kind<'k, W: fmt::Write>(
     f: &mut Formatter<W>,

@@ -9,5 +9,5 @@ mod reasons;
 mod texts;
 
 pub use beginnings::Beginning;
-pub use besides::Summary;
+pub use besides::{SolvableLast, Summary};
 pub use reasons::Reason;

@@ -5,6 +5,7 @@
 mod bundles;
 mod checks;
 mod claims;
+mod goals;
 mod inputs;
 mod known;
 mod laws;
@@ -18,6 +19,7 @@ mod verdicts;
 
 pub use checks::verify;
 pub use claims::{BegunClaim, SaidMoves, answer_over, begin_claim, optimum_over};
+pub use goals::{is_solvable_last, is_solvable_last_alone};
 pub use inputs::Inputs;
 pub use known::known_table;
 pub use laws::{
