@@ -15,12 +15,12 @@ use puz_board::Board;
 use puz_goal::Goal;
 
 /// A bound of a board in so many parts, and where the blank is at home.
-#[derive(Debug, PartialEq, Eq, Drop)]
-pub struct BoundInParts {
-    pub board: Board,
-    pub bound: u8,
-    pub count: u16,
-    pub goal: Goal,
+#[derive(Drop)]
+pub(crate) struct BoundInParts {
+    pub(crate) board: Board,
+    pub(crate) bound: u8,
+    pub(crate) count: u16,
+    pub(crate) goal: Goal,
 }
 
 /// What the whole lines of a text tell that show no moves, beside marks: how many they are, and the first that is skipped.
