@@ -925,6 +925,7 @@ rm -r pdb_cli rounds
 expect 'parts of a text that is no board' 1 'refused B3 count 0' : parts /dev/null 6 3 part_lines
 expect 'parts of a board that is not there' 2 'fault read B' : parts B 6 3 part_lines
 expect 'answers that are not there' 2 'fault read A' : parts board 6 3 part_lines A
+expect 'answers that are not there, and a text that is no board' 2 'fault read A' : parts /dev/null 6 3 part_lines A
 expect 'answers that are not there, behind a refutation' 2 'fault read A' : parts board 7 1 other_part_lines A
 truncate -s 67108865 long_answers
 expect 'answers over their limit' 2 'fault size long_answers' : parts board 6 3 part_lines long_answers

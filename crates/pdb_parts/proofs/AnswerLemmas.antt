@@ -1,5 +1,5 @@
 -- What a line tells of a bound in parts.
-use Rattle.std.proofs.Common.{◌≡◌, ℕ, ◌+◌, ◌<◌, ◌||◌, Bool, true, false, List, [], ◌∷◌, ◌++◌, codes, drop, eqb, eq-eqb, get_or, length, not, refl, sym, ◌∙◌}
+use Rattle.std.proofs.Common.{◌≡◌, ℕ, ◌+◌, ◌<◌, ◌||◌, Bool, true, false, List, [], ◌∷◌, ◌++◌, codes, drop, eqb, eq-eqb, get_or, not, refl, sym, ◌∙◌}
 use Rattle.std.proofs.Common.{ap, arith, inl, inr, subst, take}
 use Rattle.std.proofs.lemmas.Bool.{cases_Bool, cases_eq, ne_eqb, not_from_false}
 use Rattle.std.proofs.lemmas.Bool.Decides.{Decides-eqb}
@@ -15,7 +15,7 @@ use Rattle.puz_board.specs.MovesTexts.{is_letter}
 use Rattle.puz_goal.specs.Goals.{SolvesFor}
 use Rattle.claim_text.specs.Claims.{HasNo}
 use Rattle.claim_text.specs.Lines.{refused, told_line}
-use Rattle.pdb_parts.specs.Beside.{is_aside, is_digest, is_of_search, is_one_of, spent_line, unsolved_line}
+use Rattle.pdb_parts.specs.Beside.{is_aside, is_digest, is_one_of, spent_line, unsolved_line}
 use Rattle.pdb_parts.specs.Joining.{Refutes, RefutesNot, ShownBoundInParts, claim_of, part_line}
 use Rattle.pdb_parts.specs.Stored.{IsAnswerOf}
 use Rattle.pdb_parts.specs.declared.answers.PartAnswer.TheVariants.{Holds, Other, Skipped, Spent}
@@ -238,18 +238,6 @@ module _ (asked : ShownBoundInParts) (line : List ℕ) where
       skipped = none_of a b c (is_aside line) (none_is (part_line asked) asked.count line no_part)
           (none_is (spent_line asked) asked.count line no_spent) (none_is (unsolved_line asked) asked.count line no_unsolved) no_aside;
     }
-
-    -- moves that refute the bound are said by no line of a search otherwise
-    pub refuting_skipped : (what moves : List ℕ) (i : ℕ) → is_aside line ≡ false → IsAloneFor what i → what ≡ codes "refused O2 by" ++ moves
-        → not (is_of_search asked line) ≡ true
-    unfolding head_of
-    refuting_skipped what moves i no_aside alone words =
-        none_of a b c (is_aside line) (none_is (part_line asked) asked.count line no_part)
-        (none_is (spent_line asked) asked.count line (λ j below is.
-        let letter : 75 ≡ 79 = ap (λ (t : List ℕ). head_of 0 (drop 8 t)) ((alone (codes "refused K1") j k1_no below is).0 ∙ words) in omega (arith, letter)))
-        (none_is (unsolved_line asked) asked.count line (λ j below is.
-        let letter : 75 ≡ 79 = ap (λ (t : List ℕ). head_of 0 (drop 8 t)) ((alone (codes "refused K2") j k2_no below is).0 ∙ words) in omega (arith, letter)))
-        no_aside
 
     -- so it is where the line refuses no claim of a part
     pub no_claim_answer : is_aside line ≡ false

@@ -1,8 +1,8 @@
 -- Marks of parts, and counts of lines.
-use Rattle.std.proofs.Common.{◌≡◌, ◌≢◌, ℕ, suc, zero, ◌+◌, ◌<◌, ◌≤◌, ◌||◌, ◌&&◌, add-one, Bool, true, false, List, [], ◌∷◌, ◌++◌, cond, eqb, eq-eqb, get_or, set}
+use Rattle.std.proofs.Common.{◌≡◌, ℕ, suc, zero, ◌+◌, ◌<◌, ◌≤◌, ◌||◌, ◌&&◌, add-one, Bool, true, false, List, [], ◌∷◌, ◌++◌, cond, eqb, eq-eqb, get_or, set}
 use Rattle.std.proofs.Common.{flat_map, length, length-append, not, refl, sym, ◌∙◌, ap, append_assoc, arith, inl, inr, Some}
 use mir.Val.{bool_byte}
-use Rattle.std.proofs.lemmas.Bool.{cases_eq, cond-false, cond-true, ne_eqb}
+use Rattle.std.proofs.lemmas.Bool.{cases_eq, ne_eqb}
 use Rattle.std.proofs.lemmas.Grind.{flat_map-append, get_or-set_at}
 use Rattle.std.proofs.lemmas.List.{append-nil, get_or-set_other}
 use Rattle.std.proofs.lemmas.List.Elements.{All-append, All-cons, All-nil, filter-append}
@@ -11,7 +11,7 @@ use Rattle.std.specs.Prelude.{filter}
 use Rattle.std.specs.List.{All, list_all, list_any, range_with_len}
 use Rattle.std.specs.Str.{bytes_eq}
 use Rattle.pdb_parts.specs.Beside.{is_of_search, is_spent, skipped_lines, spent_line, spent_parts}
-use Rattle.pdb_parts.specs.Joining.{AreFirstMoves, Refutes, RefutesNot, ShownBoundInParts, are_told, is_told, open_claim, open_claims, part_line, whole_lines}
+use Rattle.pdb_parts.specs.Joining.{AreFirstMoves, Refutes, RefutesNot, ShownBoundInParts, are_told, is_told, open_claim, open_claims, part_line}
 use Rattle.pdb_parts.specs.Stored.{AreCountsOf, AreMarksOf, IsAnswerOf, holds_in, is_skip, spent_in}
 use Rattle.pdb_parts.specs.declared.answers.PartAnswer.{PartAnswer}
 use Rattle.pdb_parts.specs.declared.beside.LineCounts.{LineCounts}
@@ -117,16 +117,26 @@ none_more asked lines line none last =
     All-append (RefutesNot asked) lines (line ∷ []) none (All-cons (RefutesNot asked) line [] last (All-nil (RefutesNot asked)))
 
 -- behind lines that show none, the first of more lines are the first of all
-pub first_behind : (asked : ShownBoundInParts) (lines more behind : List (List ℕ)) (moves : List ℕ) → All (RefutesNot asked) lines
-    → AreFirstMoves asked more (Some moves) → AreFirstMoves asked (lines ++ (more ++ behind)) (Some moves)
-first_behind asked lines more behind moves none first = (
+pub first_behind : (asked : ShownBoundInParts) (lines more : List (List ℕ)) (moves : List ℕ) → All (RefutesNot asked) lines
+    → AreFirstMoves asked more (Some moves) → AreFirstMoves asked (lines ++ more) (Some moves)
+first_behind asked lines more moves none first = (
   lines ++ first.0,
   first.1,
-  first.2 ++ behind,
-  ap (λ (all : List (List ℕ)). lines ++ (all ++ behind)) first.3
-      ∙ ap (λ (all : List (List ℕ)). lines ++ all) (append_assoc first.0 (first.1 ∷ first.2) behind)
-      ∙ sym (append_assoc lines first.0 (first.1 ∷ (first.2 ++ behind))),
+  first.2,
+  ap (λ (all : List (List ℕ)). lines ++ all) first.3 ∙ sym (append_assoc lines first.0 (first.1 ∷ first.2)),
   All-append (RefutesNot asked) lines first.0 none first.4,
+  first.5,
+)
+
+-- and the first of lines stay the first, whatever is behind these
+pub first_before : (asked : ShownBoundInParts) (lines more : List (List ℕ)) (moves : List ℕ) → AreFirstMoves asked lines (Some moves)
+    → AreFirstMoves asked (lines ++ more) (Some moves)
+first_before asked lines more moves first = (
+  first.0,
+  first.1,
+  first.2 ++ more,
+  ap (λ (all : List (List ℕ)). all ++ more) first.3 ∙ append_assoc first.0 (first.1 ∷ first.2) more,
+  first.4,
   first.5,
 )
 

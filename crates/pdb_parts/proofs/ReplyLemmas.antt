@@ -1,6 +1,6 @@
 -- What a yes says.
-use Rattle.std.proofs.Common.{◌≡◌, ◌∙◌, ◌%◌, ◌<◌, ◌≤◌, ◌++◌, ℕ, zero, suc, Bool, true, false, List, [], Option, Some, None, Result, Ok, Err, ap, arith, cond}
-use Rattle.std.proofs.Common.{flat_map, length, refl, sym}
+use Rattle.std.proofs.Common.{◌≡◌, ◌∙◌, ◌%◌, ◌<◌, ◌++◌, ℕ, zero, suc, Bool, true, false, List, [], Option, Some, None, Result, Ok, Err, ap, arith, cond}
+use Rattle.std.proofs.Common.{flat_map, refl, sym}
 use Rattle.puz_board.specs.BoardTexts.{Spells, board_of_text}
 use Rattle.puz_goal.specs.Goals.{IsBoundedFor}
 use Rattle.puz_board.specs.declared.texts.BoardFault.{BoardFault}

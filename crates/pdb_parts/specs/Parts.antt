@@ -1,5 +1,5 @@
 -- `parts BOARD N K ANSWERS..`: what lines tell of the parts of a bound, joined.
-use Rattle.std.specs.Prelude.{◌≡◌, ◌^◌, ℕ, List, [], ◌∷◌, None, Some, Option, Result, Ok, Err, flat_map, map}
+use Rattle.std.specs.Prelude.{◌≡◌, ◌^◌, ℕ, List, [], ◌∷◌, Some, Option, Result, Ok, Err, flat_map, map}
 use Rattle.puz_board.specs.BoardTexts.{Spells, board_of_text}
 use Rattle.puz_board.specs.declared.texts.BoardFault.{BoardFault}
 use Rattle.claim_text.specs.Parts.{AreParts}

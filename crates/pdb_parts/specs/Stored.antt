@@ -1,13 +1,14 @@
 -- How bounds, marks and counts are stored.
-use Rattle.std.specs.Prelude.{◌≡◌, ℕ, ◌<◌, ◌==◌, ⊤, Bool, true, false, List, Option, flat_map, length, not, slice_index_or, string_bytes}
+use Rattle.std.specs.Prelude.{◌≡◌, ℕ, ◌<◌, ◌==◌, ⊤, Bool, true, false, List, [], ◌∷◌, Option, Some, None, flat_map, length, not, option_map, slice_index_or, string_bytes, unwrap_or}
 use Rattle.std.specs.Str.{bytes_eq}
 use Rattle.byte_io.specs.Shelf.{Bytes}
 use Rattle.pdb_run.specs.Writing.{reply_text}
-use Rattle.pdb_parts.specs.Beside.{beside_text, is_of_search, is_spent, skipped_lines, spent_line}
+use Rattle.pdb_parts.specs.Beside.{beside_text, first_line, is_of_search, is_spent, skipped_lines, spent_line}
 use Rattle.pdb_parts.specs.Joining.{AreFirstMoves, RefutesNot, ShownBoundInParts, is_told, joined_reply, part_line, whole_lines}
 use Rattle.pdb_parts.specs.declared.answers.PartAnswer.{PartAnswer}
-use Rattle.pdb_parts.specs.declared.answers.PartAnswer.TheVariants.{Holds, Other, Skipped, Spent}
+use Rattle.pdb_parts.specs.declared.answers.PartAnswer.TheVariants.{Holds, Skipped, Spent}
 use Rattle.pdb_parts.specs.declared.beside.LineCounts.{LineCounts}
+use Rattle.pdb_parts.specs.declared.first.SkippedLine.{SkippedLine}
 use Rattle.pdb_parts.specs.declared.joining.Joined.{Joined}
 use Rattle.pdb_parts.specs.declared.marks.BoundInParts.{BoundInParts}
 
@@ -57,6 +58,23 @@ pub record AreMarksOf (holds spent : List Bool) (lines : List (List ℕ)) (asked
 pub record AreCountsOf (counts : LineCounts) (lines : List (List ℕ)) (asked : ShownBoundInParts) : Type 0 where
   pub all : counts.all ≡ length lines
   pub skipped : counts.skipped ≡ length (skipped_lines lines asked)
+
+-- ---- the first line that is skipped
+
+-- its number and its bytes
+abbrev pub skipped_shown : Option SkippedLine → Option (ℕ × List ℕ)
+skipped_shown first = option_map (λ skipped. (skipped.number, skipped.line.now)) first
+
+-- the first of lines and one more
+abbrev pub first_with : Option SkippedLine → SkippedLine → (is_skip : Bool) → Option SkippedLine
+first_with (Some first) line is_skip = Some first
+first_with None line true = Some line
+first_with None line false = None
+
+-- what is told of it in files and one more, of this name, where it is the first there
+abbrev pub told_with : Bytes → (name : Bytes) → Option (ℕ × List ℕ) → Bytes
+told_with [] name first = unwrap_or (option_map (λ found. first_line name found.0 found.1) first) []
+told_with (byte ∷ told) name first = byte ∷ told
 
 -- ---- what is said
 

@@ -1,9 +1,9 @@
 //! What a line tells of a bound in parts.
 
-ghost use Rattle.std.specs.Prelude.{◌≡◌, ◌++◌, ◌<◌, ℕ, List, true, IfErr, IfNone, IfOk, IfSome, OnErr, codes, not};
+ghost use Rattle.std.specs.Prelude.{◌≡◌, ◌++◌, ◌<◌, ℕ, List, IfErr, IfNone, IfOk, IfSome, codes};
 ghost use Rattle.puz_goal.specs.Goals.{SolvesFor};
 ghost use Rattle.claim_text.specs.Parts.{AreParts};
-ghost use Rattle.pdb_parts.specs.Beside.{is_aside, is_of_search};
+ghost use Rattle.pdb_parts.specs.Beside.{is_aside};
 ghost use Rattle.pdb_parts.specs.Joining.{Refutes};
 ghost use Rattle.pdb_parts.specs.Stored.{IsAnswerOf, is_skip, shown};
 
@@ -47,7 +47,6 @@ pub(crate) fn read_answer<'l>(line: &'l [u8], asked: &BoundInParts) -> Result<Pa
     requires { AreParts asked.now.count }
     ensures answer { IfOk result (IsAnswerOf (shown asked.now) line.now) }
     ensures moves { IfErr result (λ moves. Refutes (shown asked.now) line.now moves.now) }
-    ensures alone { OnErr result (not (is_of_search (shown asked.now) line.now) ≡ true) }
 {
     if is_aside(line) {
         return Ok(PartAnswer::Other);

@@ -3,14 +3,8 @@
 ghost use Rattle.std.specs.Prelude.{◌≡◌, ◌⊎◌, ◌+◌, ◌++◌, IfOk, IfSome, string_bytes};
 ghost use Rattle.std.specs.Io.KnownBytes.{Appends};
 ghost use Rattle.byte_io.specs.Streams.{AppendsFront};
-ghost use Rattle.claim_text.specs.Parts.{AreParts};
-ghost use Rattle.pdb_request.specs.Asked.{file_names};
-ghost use Rattle.pdb_run.specs.Answers.{all_bytes};
-ghost use Rattle.pdb_parts.specs.Beside.{counts_text, ended_line, first_told, skipped_line, where_some};
-ghost use Rattle.pdb_parts.specs.Stored.{shown};
+ghost use Rattle.pdb_parts.specs.Beside.{counts_text, ended_line, skipped_line, where_some};
 
-use crate::first::first_told;
-use crate::marks::BoundInParts;
 use arrayvec::ArrayString;
 use byte_io::streams::put_text;
 use itoa::Buffer;
@@ -19,13 +13,6 @@ use std::io::Write;
 
 /// One line of it, as a value.
 type BesideLine = ArrayString<128>;
-
-/// Files of answer lines, which were read: their names, and their texts in the same order.
-#[derive(Clone, Copy)]
-pub struct AnswerFiles<'a> {
-    pub names: &'a [&'a str],
-    pub texts: &'a [Vec<u8>],
-}
 
 /// How many whole lines there are, and how many of these are skipped.
 #[derive(Clone, Copy, Debug, PartialEq, Eq)]
@@ -47,22 +34,19 @@ impl LineCounts {
     }
 }
 
-/// What is told of the lines of files of which so many are skipped, and of so many open parts whose search a budget ended.
+/// What is told of lines of which so many are skipped, the first of them so, and of so many open parts whose search a budget ended.
 pub(crate) fn counts_text(
     alloc: Global,
-    files: AnswerFiles<'_>,
+    first: &str,
     counts: LineCounts,
     spent: usize,
-    asked: &BoundInParts,
+    count: u16,
 ) -> Result<String, AllocError>
-    requires { AreParts asked.now.count }
-    ensures { let names = file_names files.entry.names.now in
-        let first = first_told (shown asked.now) names (all_bytes files.entry.texts.now) in
-        let told = counts_text counts.skipped counts.all first spent asked.now.count in
+    ensures { let told = counts_text counts.skipped counts.all first.now spent count in
         IfOk result (λ text. string_bytes text ≡ told) }
 {
-    let mut text = skipped_text(alloc, files, counts, asked)?;
-    text.push_str(ended_text(spent, asked.count).as_str())?;
+    let mut text = skipped_text(alloc, first, counts)?;
+    text.push_str(ended_text(spent, count).as_str())?;
     Ok(text)
 }
 
@@ -74,25 +58,17 @@ pub(crate) fn tell<E: Write>(text: &str, err: &mut E)
     let _ = put_text(err, text);
 }
 
-/// What is told of lines of files that are skipped, if there are any.
-fn skipped_text(
-    alloc: Global,
-    files: AnswerFiles<'_>,
-    counts: LineCounts,
-    asked: &BoundInParts,
-) -> Result<String, AllocError>
-    requires { AreParts asked.now.count }
-    ensures { let names = file_names files.entry.names.now in
-        let first = first_told (shown asked.now) names (all_bytes files.entry.texts.now) in
-        let line = skipped_line counts.skipped counts.all in
-        IfOk result (λ text. string_bytes text ≡ where_some counts.skipped (line ++ first)) }
+/// What is told of lines that are skipped, if there are any.
+fn skipped_text(alloc: Global, first: &str, counts: LineCounts) -> Result<String, AllocError>
+    ensures { let line = skipped_line counts.skipped counts.all in
+        IfOk result (λ text. string_bytes text ≡ where_some counts.skipped (line ++ first.now)) }
 {
     let mut text = String::new(alloc);
     if counts.skipped == 0 {
         return Ok(text);
     }
     text.push_str(skipped_line(counts).as_str())?;
-    text.push_str(first_told(alloc, files, asked)?.as_str())?;
+    text.push_str(first)?;
     Ok(text)
 }
 

@@ -1,17 +1,9 @@
 //! What the errors are told of the first line that is skipped.
 
-ghost use Rattle.std.specs.Prelude.{◌≡◌, ◌++◌, ◌<◌, None, Some, IfNone, IfOk, IfSome, OnOk, length, map, not, string_bytes};
-ghost use Rattle.claim_text.specs.Parts.{AreParts};
-ghost use Rattle.pdb_request.specs.Asked.{file_names};
-ghost use Rattle.pdb_run.specs.Answers.{all_bytes};
-ghost use Rattle.pdb_parts.specs.Beside.{first_in, first_line, first_told, is_of_search, quoted_byte};
-ghost use Rattle.pdb_parts.specs.Joining.{whole_lines};
-ghost use Rattle.pdb_parts.specs.Stored.{shown};
+ghost use Rattle.std.specs.Prelude.{◌≡◌, ◌++◌, ◌<◌, IfOk, OnOk, map, string_bytes};
+ghost use Rattle.pdb_parts.specs.Beside.{first_line, quoted_byte};
+ghost use Rattle.pdb_parts.specs.Stored.{first_with, skipped_shown, told_with};
 
-use crate::answers::read_answer;
-use crate::beside::AnswerFiles;
-use crate::marks::BoundInParts;
-use crate::whole_lines::split_whole_line;
 use itoa::Buffer;
 use std::alloc::{AllocError, Global};
 
@@ -20,57 +12,38 @@ const MOST_QUOTED: usize = 160;
 
 /// A line that is skipped, with its LF, and its number in its file, from 1 on.
 #[derive(Clone, Copy)]
-struct SkippedLine<'t> {
-    number: usize,
-    line: &'t [u8],
+pub(crate) struct SkippedLine<'t> {
+    pub(crate) number: usize,
+    pub(crate) line: &'t [u8],
 }
 
-/// What is told of the first of the whole lines of files that is skipped; nothing where none is.
-pub(crate) fn first_told(
+/// The first line that is skipped, where one more line stands behind.
+pub(crate) fn first_with<'t>(
+    before: Option<SkippedLine<'t>>,
+    line: SkippedLine<'t>,
+    is_skip: bool,
+) -> Option<SkippedLine<'t>>
+    ensures { result ≡ first_with before.entry line.entry is_skip }
+{
+    match before {
+        None if is_skip => Some(line),
+        _ => before,
+    }
+}
+
+/// What is told of the first line that is skipped, where one more file stands behind, of this name: of its lines this is the first.
+pub(crate) fn told_with(
     alloc: Global,
-    files: AnswerFiles<'_>,
-    asked: &BoundInParts,
+    before: String,
+    name: &str,
+    first: Option<SkippedLine<'_>>,
 ) -> Result<String, AllocError>
-    requires { AreParts asked.now.count }
-    ensures { let names = file_names files.entry.names.now in
-        let told = first_told (shown asked.now) names (all_bytes files.entry.texts.now) in
+    ensures { let told = told_with (string_bytes before) name.now (skipped_shown first.entry) in
         IfOk result (λ text. string_bytes text ≡ told) }
 {
-    for index in 0..files.names.len().min(files.texts.len()) {
-        if let Some(skipped) = first_skipped(files.texts[index].as_slice(), asked) {
-            return first_line(alloc, files.names[index], skipped);
-        }
-    }
-    Ok(String::new(alloc))
-}
-
-/// The first of the whole lines of a text that is skipped.
-fn first_skipped<'t>(text: &'t [u8], asked: &BoundInParts) -> Option<SkippedLine<'t>>
-    requires { AreParts asked.now.count }
-    ensures some { IfSome result
-        (λ s. first_in (shown asked.now) 0 (whole_lines text.now) ≡ Some (s.number, s.line.now)) }
-    ensures none { IfNone result (first_in (shown asked.now) 0 (whole_lines text.now) ≡ None) }
-{
-    let mut number = 0;
-    let mut rest = text;
-    while let Some((line, behind)) = split_whole_line(rest) {
-        number += 1;
-        if is_skipped(line, asked) {
-            return Some(SkippedLine { number, line });
-        }
-        rest = behind;
-    }
-    None
-}
-
-/// Whether a line is skipped.
-fn is_skipped(line: &[u8], asked: &BoundInParts) -> bool
-    requires { AreParts asked.now.count }
-    ensures { result ≡ not (is_of_search (shown asked.now) line.now) }
-{
-    match read_answer(line, asked) {
-        Ok(answer) => answer.is_skip(),
-        Err(_) => true,
+    match first {
+        Some(skipped) if before.is_empty() => first_line(alloc, name, skipped),
+        _ => Ok(before),
     }
 }
 

@@ -1,81 +1,80 @@
 //! What is said of a bound in parts.
 
-ghost use Rattle.std.specs.Prelude.{◌≡◌, ◌≤◌, ◌<◌, ◌&&◌, ◌++◌, ℕ, false, filter, flat_map, length, not, slice_index_or, string_bytes, IfOk};
+ghost use Rattle.std.specs.Prelude.{◌≡◌, ◌≤◌, ◌&&◌, ◌<◌, ◌++◌, List, false, filter, flat_map, length, not, slice_index_or, string_bytes, IfOk};
 ghost use Rattle.std.specs.List.{list_all, range_with_len};
-ghost use Rattle.puz_goal.specs.Goals.{SolvesFor};
-ghost use Rattle.claim_text.specs.Claims as claims;
-ghost use Rattle.claim_text.specs.Claims.{ShownClaim};
-ghost use Rattle.claim_text.specs.Lines.{joined_line, shorter, told_line};
+ghost use Rattle.claim_text.specs.Lines.{joined_line};
 ghost use Rattle.claim_text.specs.Parts.{AreParts};
-ghost use Rattle.pdb_request.specs.Asked.{file_names};
-ghost use Rattle.pdb_run.specs.Answers.{all_bytes};
-ghost use Rattle.pdb_run.specs.Writing.{digests_of};
-ghost use Rattle.pdb_parts.specs.Joining.{open_claim, whole_lines};
-ghost use Rattle.pdb_parts.specs.Steps.{MarksLines};
+ghost use Rattle.byte_io.specs.Shelf.{Bytes};
+ghost use Rattle.pdb_request.specs.Asked.{PartsArguments};
+ghost use Rattle.pdb_parts.specs.Joining.{open_claim};
+ghost use Rattle.pdb_parts.specs.Steps.{IsJoinedOf, IsNoted, MarksFiles, TellsOfFiles};
 ghost use Rattle.pdb_parts.specs.Stored.{IsJoined, shown};
 
-use crate::beside::{AnswerFiles, counts_text};
-use crate::marks::{BoundInParts, Marks, Told, mark_all};
-use claim_text::{Asks, Claim, Line, claim_line, joined_line, shorter_line};
+use crate::beside::counts_text;
+use crate::marks::BoundInParts;
+use crate::noting::{Joining, Marks, Told, Unjoined};
+use claim_text::{Asks, Claim, Line, claim_line, joined_line};
 use move_strings::BoundPart;
-use puz_board::Board;
-use puz_goal::Goal;
-use sha2::{Digest, Sha256};
 use std::alloc::{AllocError, Global};
 
 /// What is said of a bound in parts, whether that is that it holds, and what the errors are told beside it.
-#[derive(Debug, Drop)]
-pub struct Joined {
-    pub text: String,
-    pub is_yes: bool,
-    pub beside: String,
+#[derive(Drop)]
+pub(crate) struct Joined {
+    pub(crate) text: String,
+    pub(crate) is_yes: bool,
+    pub(crate) beside: String,
 }
 
-/// What is said of a bound in parts where these files of answer lines were read: that it is false, where a whole line shows moves
-/// for that; that it holds, where of each part one says so; or else the claims of the parts that are open.
-pub fn join(
-    alloc: Global,
-    files: AnswerFiles<'_>,
-    asked: &BoundInParts,
-) -> Result<Joined, AllocError>
-    requires { AreParts asked.now.count }
-    ensures { let names = file_names files.entry.names.now in
-        let texts = all_bytes files.entry.texts.now in
-        IfOk result (λ joined. IsJoined joined names texts (shown asked.now)) }
+/// What is said where this is noted of files of answer lines: that the bound is false, where a whole line shows moves for that; that
+/// it holds, where of each part one says so; or else the claims of the parts that are open.
+pub(crate) fn join(alloc: Global, noted: Result<Joining, Unjoined>) -> Result<Joined, Unjoined>
+    requires { (arguments : PartsArguments) × (board : Bytes) × (names : List Bytes)
+        × (answers : List Bytes) × IsNoted arguments board names answers noted }
+    ensures { (arguments : PartsArguments) (board : Bytes) (names answers : List Bytes)
+        → IsNoted arguments board names answers noted
+        → IsJoinedOf arguments board names answers result }
 {
-    let told = mark_all(alloc, files.texts, asked)?;
+    let Joining { asked, told } = noted?;
+    Ok(join_told(alloc, told, &asked)?)
+}
+
+/// The same, where the board text isn't refused.
+fn join_told(alloc: Global, told: Told, asked: &BoundInParts) -> Result<Joined, AllocError>
+    requires parts { AreParts asked.now.count }
+    requires told { (names : List Bytes) × (answers : List Bytes)
+        × TellsOfFiles (shown asked.now) names answers told }
+    ensures { (names answers : List Bytes) → TellsOfFiles (shown asked.now) names answers told
+        → IfOk result (λ joined. IsJoined joined names answers (shown asked.now)) }
+{
     match told {
-        Told::Against(moves) => {
-            let text = false_text(alloc, asked.goal, moves, &asked.board, asked.bound)?;
-            Ok(Joined {
-                text,
-                is_yes: false,
-                beside: String::new(alloc),
-            })
-        }
-        Told::Marked(marks) => join_marked(alloc, files, &marks, asked),
+        Told::Against(text) => Ok(Joined {
+            text,
+            is_yes: false,
+            beside: String::new(alloc),
+        }),
+        Told::Marked(marks) => join_marked(alloc, marks, asked),
     }
 }
 
-/// What is said where these are the marks of the lines.
-fn join_marked(
-    alloc: Global,
-    files: AnswerFiles<'_>,
-    marks: &Marks,
-    asked: &BoundInParts,
-) -> Result<Joined, AllocError>
+/// The same, where no line shows moves.
+fn join_marked(alloc: Global, marks: Marks, asked: &BoundInParts) -> Result<Joined, AllocError>
     requires parts { AreParts asked.now.count }
-    requires marks { let lines = flat_map whole_lines (all_bytes files.texts.now) in
-        MarksLines (shown asked.now) lines marks.now }
-    ensures { let names = file_names files.entry.names.now in
-        let texts = all_bytes files.entry.texts.now in
-        IfOk result (λ joined. IsJoined joined names texts (shown asked.now)) }
+    requires marks { (names : List Bytes) × (answers : List Bytes)
+        × MarksFiles (shown asked.now) names answers marks }
+    ensures { (names answers : List Bytes) → MarksFiles (shown asked.now) names answers marks
+        → IfOk result (λ joined. IsJoined joined names answers (shown asked.now)) }
 {
     let holds = marks.holds.as_slice();
     let spent = count_spent(holds, marks.spent.as_slice());
-    let beside = counts_text(alloc, files, marks.counts, spent, asked)?;
+    let beside = counts_text(
+        alloc,
+        marks.first.as_str(),
+        marks.counts,
+        spent,
+        asked.count,
+    )?;
     if are_marked(holds) {
-        let text = bound_text(alloc, files.texts, asked)?;
+        let text = bound_text(marks.digests, asked)?;
         return Ok(Joined {
             text,
             is_yes: true,
@@ -113,51 +112,16 @@ fn count_spent(holds: &[bool], spent: &[bool]) -> usize
     count
 }
 
-/// The line that says that moves show the bound of a board to be false.
-fn false_text(
-    alloc: Global,
-    goal: Goal,
-    moves: &[u8],
-    board: &Board,
-    bound: u8,
-) -> Result<String, AllocError>
-    requires { (n : ℕ) × SolvesFor goal board.now moves.now n × (n < bound) }
-    ensures { let claim : ShownClaim = record { board = board.now; asks = claims.bound bound } in
-        IfOk result (λ text. string_bytes text ≡ told_line goal (shorter moves.now claim)) }
-{
-    let claim = Claim {
-        board: *board,
-        asks: Asks::Bound(bound),
-    };
-    let mut text = String::new(alloc);
-    text.push_str(shorter_line(goal, moves, &claim).as_str())?;
-    Ok(text)
-}
-
-/// The digest lines of the texts, and the line of the bound behind them.
-fn bound_text(alloc: Global, texts: &[Vec<u8>], asked: &BoundInParts) -> Result<String, AllocError>
+/// Digest lines, and the line of the bound behind them.
+fn bound_text(digests: String, asked: &BoundInParts) -> Result<String, AllocError>
     ensures { let asked = asked.now in
         let line = joined_line asked.goal asked.bound asked.count asked.board in
-        IfOk result (λ text. string_bytes text ≡ digests_of (all_bytes texts.now) ++ line) }
+        IfOk result (λ text. string_bytes text ≡ string_bytes digests ++ line) }
 {
-    let mut text = digest_lines(alloc, texts)?;
+    let mut text = digests;
     let line = joined_line(asked.goal, asked.bound, asked.count, &asked.board);
     text.push_str(line.as_str())?;
     Ok(text)
-}
-
-/// The digest line of each text.
-fn digest_lines(alloc: Global, texts: &[Vec<u8>]) -> Result<String, AllocError>
-    ensures { IfOk result (λ lines. string_bytes lines ≡ digests_of (all_bytes texts.now)) }
-{
-    let mut lines = String::new(alloc);
-    for text in texts {
-        let digest = hex::encode(alloc, Sha256::digest(text.as_slice()))?;
-        lines.push_str("sha256 ")?;
-        lines.push_str(digest.as_str())?;
-        lines.push_str("\n")?;
-    }
-    Ok(lines)
 }
 
 /// The lines of the claims that the parts hold which have no mark.

@@ -8,10 +8,8 @@ mod first;
 mod joining;
 pub mod laws;
 mod marks;
+mod noting;
 mod runs;
 mod whole_lines;
 
-pub use beside::AnswerFiles;
-pub use joining::{Joined, join};
-pub use marks::BoundInParts;
 pub use runs::run_parts;

@@ -1,62 +1,34 @@
 //! A run of `parts`.
 
-ghost use Rattle.std.specs.Prelude.{◌≡◌, ◌∷◌, ◌≤◌, IfOk, length, map, string_bytes};
+ghost use Rattle.std.specs.Prelude.{◌≡◌, [], Err, IfErr, IfOk, string_bytes};
 ghost use Rattle.claim_text.specs.Parts.{AreParts};
-ghost use Rattle.pdb_request.specs.Asked.{file_names, parts_shown};
-ghost use Rattle.pdb_run.specs.Answers.{all_bytes};
+ghost use Rattle.pdb_request.specs.Asked.{parts_shown};
 ghost use Rattle.pdb_run.specs.Ended.{HasItsStatus, status_by};
 ghost use Rattle.pdb_run.specs.Inputs.{wanted_of};
-ghost use Rattle.pdb_run.specs.Io.{IsSaid};
+ghost use Rattle.pdb_run.specs.Io.{HasStopped, IsSaid};
 ghost use Rattle.pdb_run.specs.Runs.{Ends, status_of_reply};
+ghost use Rattle.pdb_run.specs.Writing.{reply_text};
+ghost use Rattle.pdb_run.specs.declared.statuses.Status.TheVariants as status;
+ghost use Rattle.pdb_verdict.specs.Lines.{reply_on};
+ghost use Rattle.pdb_verdict.specs.declared.verdicts.Fault.TheVariants as fault;
 ghost use Rattle.pdb_parts.specs.Beside.{TellsOfAnswers};
-ghost use Rattle.pdb_parts.specs.Parts.{an_answers_text, parts_plan};
-ghost use Rattle.pdb_parts.specs.Steps.{TellsBeside, reading_plan};
+ghost use Rattle.pdb_parts.specs.Parts.{an_answers_text, parts_inputs, parts_plan};
+ghost use Rattle.pdb_parts.specs.Steps.{HasReadParts, TellsBeside};
 
-use crate::beside::{AnswerFiles, tell};
+use crate::beside::tell;
 use crate::joining::{Joined, join};
-use crate::marks::BoundInParts;
+use crate::noting::{Joining, Unjoined, begin, note};
 use pdb_request::JoinParts;
 use pdb_run::{
-    Answered, Cause, Command, Digested, Ended, Input, Io, Status, conclude, read_inputs,
-    say_no_memory, say_text,
+    Cause, Digested, Ended, Input, Io, Status, Unread, say_no_memory, say_text, say_unread,
 };
 use pdb_verdict::{Fault, a_text, told};
-use puz_board::Board;
-use std::alloc::{AllocError, Global};
+use puz_board::BoardFault;
+use std::alloc::Global;
 use std::io::Write;
 
 /// The most bytes of a file of answer lines.
 const ANSWERS_LIMIT: u64 = 1 << 26;
-
-/// Parts whose board text and answer lines are read, as a command: it answers a board text that is refused.
-#[derive(Clone, Copy)]
-struct Reading<'c, 'n>(&'c JoinParts<Option<&'n str>, &'n str>);
-
-impl<'n> Command<'n> for Reading<'_, 'n> {
-    ghost plan = { λ command. reading_plan (parts_shown command.0.now) };
-
-    fn inputs(&self, alloc: Global) -> Result<Vec<Input<'n>>, AllocError> {
-        let parts = self.0;
-        with_answers(alloc, a_text(parts.board), parts.answers.as_slice())
-    }
-}
-
-/// An input, and behind it the files of answer lines under these names.
-fn with_answers<'n>(
-    alloc: Global,
-    first: Input<'n>,
-    names: &[&'n str],
-) -> Result<Vec<Input<'n>>, AllocError>
-    ensures { let answers = map an_answers_text (file_names names.now) in
-        IfOk result (λ all. map wanted_of all.items ≡ wanted_of first.entry ∷ answers) }
-{
-    let mut all = Vec::new(alloc);
-    all.push(first)?;
-    for name in names {
-        all.push(an_answers_text(name))?;
-    }
-    Ok(all)
-}
 
 /// A file of answer lines under this name.
 fn an_answers_text<'a>(name: &'a str) -> Input<'a>
@@ -68,25 +40,35 @@ fn an_answers_text<'a>(name: &'a str) -> Input<'a>
     }
 }
 
-/// Parts with the bytes of their inputs, which were read in their order.
-fn with_bytes(
-    asked: &JoinParts<Option<&str>, &str>,
-    inputs: Vec<Vec<u8>>,
-) -> JoinParts<Vec<u8>, Vec<u8>>
-    requires { 1 ≤ length inputs.items }
-    ensures bound { result.bound ≡ asked.now.bound }
-    ensures count { result.count ≡ asked.now.count }
-    ensures goal { result.goal ≡ asked.now.goal }
-    ensures inputs { all_bytes inputs.items ≡ result.board.items ∷ all_bytes result.answers.items }
+/// Reads the board text, and then one file of answer lines after the other, of which each is noted before the next is read. The first
+/// input that fails ends it.
+fn read_parts<'n, I: Io>(
+    alloc: Global,
+    asked: &JoinParts<Option<&'n str>, &'n str>,
+    io: &mut I,
+) -> Result<Result<Joining, Unjoined>, Unread<'n>>
+    requires { AreParts asked.now.count }
+    ensures same_streams { I.streams io.new ≡ I.streams io.old }
+    ensures read { let arguments = parts_shown asked.now in IfOk result
+        (λ noted. HasReadParts arguments (I.world io.old) (I.world io.new) arguments.answers noted) }
+    ensures unread { let wanted = parts_inputs (parts_shown asked.now) in IfErr result
+        (λ e. HasStopped wanted (I.world io.old) (I.world io.new) (wanted_of e.input) e.why) }
 {
-    let mut answers = inputs;
-    JoinParts {
-        board: answers.remove(0),
-        bound: asked.bound,
-        count: asked.count,
-        answers,
-        goal: asked.goal,
+    let board = a_text(asked.board);
+    let text = match io.load(alloc, &board) {
+        Ok(text) => text,
+        Err(why) => return Err(Unread { input: board, why }),
+    };
+    let mut noted = begin(alloc, text.as_slice(), asked);
+    for name in asked.answers.as_slice() {
+        let input = an_answers_text(name);
+        let answers = match io.load(alloc, &input) {
+            Ok(answers) => answers,
+            Err(why) => return Err(Unread { input, why }),
+        };
+        noted = note(alloc, noted, name, answers.as_slice());
     }
+    Ok(noted)
 }
 
 /// A whole run of `parts`, without threads: it returns where its shelf, its reader and its writers do. Once its answer is written,
@@ -106,36 +88,27 @@ pub fn run_parts<'n, I: Io, E: Write>(
     ensures told { let old_err = E.contents err.old in let new_err = E.contents err.new in
         TellsOfAnswers (parts_shown asked.now) (I.world io.old) old_err new_err result.status }
 {
-    let reading = Reading(asked);
-    let read = match read_inputs(alloc, &reading, io) {
-        Ok(inputs) => with_bytes(asked, inputs),
-        Err(ended) => return ended,
+    let noted = match read_parts(alloc, asked, io) {
+        Ok(noted) => noted,
+        Err(unread) => return say_unread(&unread, io),
     };
-    let board = match Board::read(read.board.as_slice()) {
-        Ok(board) => board,
-        Err(fault) => {
-            let refused = told(Digested::Files(&[], None), &Err(Fault::Board(fault)));
-            let answered: Answered<'_, AllocError, Fault> = Answered {
-                answer: Ok(refused),
-                fault: Some(Fault::Board(fault)),
-            };
-            return conclude(&reading, &answered, io);
-        }
-    };
-    let files = AnswerFiles {
-        names: asked.answers.as_slice(),
-        texts: read.answers.as_slice(),
-    };
-    let asked = BoundInParts {
-        board,
-        bound: read.bound,
-        count: read.count,
-        goal: read.goal,
-    };
-    match join(alloc, files, &asked) {
+    match join(alloc, noted) {
         Ok(joined) => say_joined(&joined, io, err),
-        Err(_) => say_no_memory(io),
+        Err(Unjoined::Board(why)) => say_refused(why, io),
+        Err(Unjoined::Memory) => say_no_memory(io),
     }
+}
+
+/// Says why a board text is refused.
+fn say_refused<'n, I: Io>(why: BoardFault, io: &mut I) -> Ended<'n, Fault>
+    ensures caused { HasItsStatus result }
+    ensures same_streams { I.streams io.new ≡ I.streams io.old }
+    ensures said { let text = reply_text (reply_on [] (Err (fault.Board why))) in
+        IsSaid text status.Refused (I.world io.old) (I.world io.new) result.status }
+{
+    let fault = Fault::Board(why);
+    let refused = told(Digested::Files(&[], None), &Err(fault));
+    say_text(refused.lines.as_str(), Some(Cause::Refused(fault)), io)
 }
 
 /// Says what comes of parts, and then tells what is told beside it.

@@ -2,11 +2,12 @@
 use Rattle.std.proofs.Common.{◌≡◌, ◌∙◌, ◌⊎◌, List, Option, None, Some, arith, inl, inr, refl, subst, sym}
 use Rattle.byte_io.specs.Shelf.{Bytes, Files}
 use Rattle.pdb_run.specs.Answers.{IsReplyOf, answer_text}
-use Rattle.pdb_run.specs.Commands.{Plan, Reply}
+use Rattle.byte_io.specs.declared.streams.ReadFault.{ReadFault}
+use Rattle.pdb_run.specs.Commands.{Plan, Reply, Wanted}
 use Rattle.pdb_run.specs.Calls.{with_keep}
-use Rattle.pdb_run.specs.Io.{HasRead, HasReadAndTried, IsSaid}
+use Rattle.pdb_run.specs.Io.{HasRead, HasReadAndTried, HasStopped, IsSaid}
 use Rattle.pdb_run.specs.Runs.{Ends, HasCause, IsAnswered, IsFree, LeavesCalls, LeavesFailure, LeavesFiles, LeavesReader, MayReplace, Outcome}
-use Rattle.pdb_run.specs.Runs.{SparesFiles, World, made_wrong, no_memory, replied, status_of, status_of_reply, text_of, unlisted, with_kept}
+use Rattle.pdb_run.specs.Runs.{SparesFiles, World, made_wrong, no_memory, replied, status_of, status_of_reply, text_of, unlisted, unread, with_kept}
 use Rattle.pdb_run.specs.Steps.{HasBegun, kept_of}
 use Rattle.pdb_run.specs.declared.answers.CommandAnswer.{CommandAnswer}
 use Rattle.pdb_run.specs.declared.statuses.Status.{Status}
@@ -102,6 +103,13 @@ module _ {plan : Plan} {old mid new : World} {status : Status} where
       (rw (← is.digested, ← is.made, ← is.lines, ← is.is_yes) said) (are.read, right) are.free
       (rw (← are.files, ← is.made, ← is.is_yes) files) (rw (← are.calls, ← is.made, ← is.is_yes) calls)
       (λ _ _. failed ∙ are.failed) (rw reader are.behind) (written ∙ are.written)
+
+  -- an input was not read
+  pub ends_unread : {wanted : Wanted} {why : ReadFault} → HasStopped plan.inputs old mid wanted why
+      → IsSaid (text_of (unread wanted why)) (status_of (unread wanted why)) mid new status → Ends plan old new status
+  ends_unread {wanted} {why} stopped said =
+      ends_so (unread wanted why) said stopped.first tt stopped.files
+      (stopped.first.before, stopped.first.behind, stopped.first.order, stopped.calls) tt tt stopped.written
 
 -- memory was wanted before any input was read
 pub ends_unlisted : {plan : Plan} {old new : World} {status : Status}

@@ -1,4 +1,4 @@
 pub mod AnswerLemmas
 mod PageLemmas
-mod ReadingLemmas
+pub mod ReadingLemmas
 mod SpareLemmas

@@ -218,7 +218,7 @@ fn say_answer<'n, F: Copy, I: Io>(
 }
 
 /// Says which input was not read.
-fn say_unread<'n, F: Copy, I: Io>(fault: &Unread<'n>, io: &mut I) -> Ended<'n, F>
+pub fn say_unread<'n, F: Copy, I: Io>(fault: &Unread<'n>, io: &mut I) -> Ended<'n, F>
     ensures caused { HasItsStatus result }
     ensures same_streams { I.streams io.new ≡ I.streams io.old }
     ensures said { let outcome = unread (wanted_of fault.now.input) fault.now.why in

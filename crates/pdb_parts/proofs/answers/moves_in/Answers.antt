@@ -1,4 +1,4 @@
-use Rattle.std.proofs.Common.{◌≡◌, ◌≤◌, ◌<◌, ◌++◌, ◌∙◌, List, None, Ok, Option, Result, Some, ap, arith, codes, drop, length, subst, sym, ℕ}
+use Rattle.std.proofs.Common.{◌≡◌, ◌++◌, ◌∙◌, List, None, Ok, Result, Some, ap, arith, codes, drop, length, subst, sym, ℕ}
 use Rattle.std.proofs.lemmas.List.Prefix.{front_rest}
 use Rattle.std.specs.Result.{result_ok}
 use Rattle.claim_text.proofs.ClaimLemmas.{IfNone-always}

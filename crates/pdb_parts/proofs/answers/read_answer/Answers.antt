@@ -4,7 +4,7 @@ use Rattle.std.proofs.lemmas.Slice.Eq.{slice_eq-Decides}
 use Rattle.claim_text.specs.Lines.{refused, told_line}
 use Rattle.pdb_parts.specs.Joining.{ShownBoundInParts, claim_of}
 use Rattle.pdb_parts.specs.Stored.{shown}
-use Rattle.pdb_parts.proofs.AnswerLemmas.{IsAloneFor, aside_answer, moves_refute, no_claim_answer, other_claim_answer, part_answer, refuting_skipped, spent_answer, unsolved_answer}
+use Rattle.pdb_parts.proofs.AnswerLemmas.{IsAloneFor, aside_answer, moves_refute, no_claim_answer, other_claim_answer, part_answer, spent_answer, unsolved_answer}
 use Rattle.pdb_parts.proofs.answers.read_answer.Goals as goal
 
 module _ (asked : ShownBoundInParts) (line what words : List ℕ) (i : ℕ) (same : what ≡ words) where
@@ -61,13 +61,6 @@ returns-in-Some-moves_in-clause-moves c =
     let moves = c.in-Some-moves_in.ensures.some in
     moves_refute (shown c.args.asked.now) c.args.line.now c.in-Some-refused_part.refused.what.now c.in-Some-moves_in.moves.now
     c.in-Some-refused_part.refused.index moves.1.0 some.0 some.2 moves.0 moves.1.1 moves.1.2
-
--- so no search says them otherwise
-pub returns-in-Some-moves_in-clause-alone : goal.returns-in-Some-moves_in-clause-alone
-returns-in-Some-moves_in-clause-alone c =
-    refuting_skipped (shown c.args.asked.now) c.args.line.now c.in_default.ensures.none c.in-Some-refused_part.refused.what.now
-    c.in-Some-moves_in.moves.now c.in-Some-refused_part.refused.index (sym c.is_aside.ensures ∙ c.if-is_aside.false)
-    c.in-Some-refused_part.ensures.one c.in-Some-moves_in.ensures.some.0
 
 -- a line that refuses the claim for anything else is skipped
 pub returns-in-None-clause-answer : goal.returns-in-None-clause-answer

@@ -1,4 +1,4 @@
-use Rattle.std.proofs.Common.{◌⊎◌, ◌≡◌, inl, inr, List, ℕ, Ok, Err, Result, subst, true}
+use Rattle.std.proofs.Common.{◌⊎◌, inl, inr, Ok, Err, Result, true}
 use Rattle.std.specs.Io.KnownBytes.{Appends}
 use Rattle.byte_io.specs.Shelf.{Bytes}
 use Rattle.byte_io.specs.Streams.{AppendsFront, Output, Writes, output}

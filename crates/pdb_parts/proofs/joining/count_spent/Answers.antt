@@ -1,6 +1,5 @@
 use Rattle.std.proofs.Common.{◌≡◌, ◌+◌, ◌&&◌, Bool, ap, arith, false, filter, get_or, length, not, ℕ}
 use Rattle.std.specs.List.{range_with_len}
-use mir.Val.{bool_byte}
 use Rattle.pdb_parts.proofs.MarkLemmas.{count_more, one_at_most}
 use Rattle.pdb_parts.proofs.joining.count_spent.Goals as goal
 

@@ -1,17 +1,11 @@
-use Rattle.std.proofs.Common.{Some, refl}
+use Rattle.std.proofs.Common.{sym}
+use Rattle.std.proofs.lemmas.Result.{err_from_is_err_and}
+use Rattle.puz_board.proofs.SpellingLemmas.{spelled-board_of_text}
 use Rattle.pdb_parts.proofs.joining.join.Goals as goal
 
--- moves that lines show are a solution of fewer moves
-pub false_text-requires : goal.false_text-requires
-false_text-requires c =
-    let first = rw c.in-Against.is at c.in_ok-told.ensures in (first.5.count, first.5.solves, first.5.fewer)
-
--- where lines show moves, these are said
-pub returns-in_ok-text-in-Against : goal.returns-in_ok-text-in-Against
-returns-in_ok-text-in-Against c = record {
-  moves = Some c.in-Against.moves.now;
-  first = rw c.in-Against.is at c.in_ok-told.ensures;
-  text = c.in_ok-text-in-Against.ensures;
-  is_yes = refl;
-  beside = c.new.ensures.bytes;
-}
+-- memory may be wanted where the board text isn't refused
+pub returns-in_err-join_told : goal.returns-in_err-join_told
+returns-in_err-join_told c = λ arguments board names answers is.
+    let noted = rw c.in_ok-asked.was at is in
+    let why = err_from_is_err_and c.from_residual-in_err-join_told.result c.from_residual-in_err-join_told.ensures.1 in
+    rw (why.1, why.2) (_, spelled-board_of_text board _ (sym noted.board))

@@ -1,64 +1,42 @@
-use Rattle.std.proofs.Common.{◌∙◌, [], ap, refl}
-use Rattle.puz_board.specs.BoardTexts.{board_of_text}
 use Rattle.pdb_request.specs.Asked.{parts_shown}
-use Rattle.pdb_run.specs.Answers.{all_bytes}
-use Rattle.pdb_parts.proofs.RunLemmas.{board_refused, ends_joined, ends_unjoined, read_ends, read_tells, tells_joined}
+use Rattle.pdb_run.proofs.AnswerLemmas.{ends_unread}
+use Rattle.pdb_parts.specs.Parts.{parts_plan}
+use Rattle.pdb_parts.proofs.RunLemmas.{ends_joined, ends_replied, ends_unjoined, refused_reply, refused_tells}
 use Rattle.pdb_parts.proofs.runs.run_parts.Goals as goal
 
--- where the inputs are not read, or the board text is refused, the run ends as planned
+-- where an input can't be read, that is said
 pub returns-in-Err-clause-ends : goal.returns-in-Err-clause-ends
-returns-in-Err-clause-ends g c = read_ends (parts_shown c.args.asked.now) c.requires c.in-Err.ensures.ends
-
--- where the inputs are not read, the errors get nothing
-pub returns-in-Err-clause-told : goal.returns-in-Err-clause-told
-returns-in-Err-clause-told g c = read_tells (parts_shown c.args.asked.now) _ _ _ c.in-Err.ended.status c.in-Err.ensures.ends
-
--- where the text spells no board, the run ends with the refusal of the text
-pub returns-in-Err-read-clause-ends : goal.returns-in-Err-read-clause-ends
-returns-in-Err-read-clause-ends g c =
-    let read = c.with_bytes-read in
-    let is = c.in-Err-read.ensures.exact ∙ ap board_of_text c.as_slice.ensures.value in
-    let refused = board_refused _ read.result.board.items (all_bytes read.result.answers.items) c.in-Err-read.fault read.ensures.inputs is in
-    read_ends (parts_shown c.args.asked.now) c.requires
-    (c.conclude.ensures.ends (all_bytes c.in-Ok.inputs.items) _ c.in-Ok.ensures.read (_, refused, c.told-refused.ensures [] refl))
-
--- of a board text that is refused the errors get nothing
-pub returns-in-Err-read-clause-told : goal.returns-in-Err-read-clause-told
-returns-in-Err-read-clause-told g c =
-    let read = c.with_bytes-read in
-    let is = c.in-Err-read.ensures.exact ∙ ap board_of_text c.as_slice.ensures.value in
-    let refused = board_refused _ read.result.board.items (all_bytes read.result.answers.items) c.in-Err-read.fault read.ensures.inputs is in
-    read_tells (parts_shown c.args.asked.now) _ _ _ c.conclude.result.status
-    (c.conclude.ensures.ends (all_bytes c.in-Ok.inputs.items) _ c.in-Ok.ensures.read (_, refused, c.told-refused.ensures [] refl))
-
--- the parts to be joined are an odd number, 65,535 at most
-pub join-requires : goal.join-requires
-join-requires g c = rw c.with_bytes-read.ensures.count c.requires
+returns-in-Err-clause-ends g c = ends_unread {plan = parts_plan (parts_shown c.args.asked.now)} c.in-Err.ensures.unread c.say_unread.ensures.said
 
 -- where the parts are joined, the run ends with what is said of them
 pub returns-in-Ok-join-clause-ends : goal.returns-in-Ok-join-clause-ends
 returns-in-Ok-join-clause-ends g c =
-    let read = c.with_bytes-read in
-    let is = c.in-Ok-read.ensures.exact ∙ ap board_of_text c.as_slice.ensures.value in
-    ends_joined (parts_shown c.args.asked.now) c.requires {mid = g.I.Io.world c.read_inputs.new.io} read.result.board.items
-    (all_bytes read.result.answers.items) c.in-Ok-read.board c.in-Ok.ensures.read read.ensures.inputs is c.in-Ok-join.joined
-    (rw (read.ensures.bound, read.ensures.count, read.ensures.goal, c.as_slice-2.ensures.value, c.as_slice-3.ensures.value) at c.in-Ok-join.ensures) c.say_joined.ensures.said
+    let arguments = parts_shown c.args.asked.now in
+    let read = c.in-Ok.ensures.read in
+    let is = c.in-Ok-join.ensures arguments read.text arguments.answers read.answers read.is in
+    ends_joined arguments read.text read.answers read.read is.0 is.1 c.in-Ok-join.joined is.2 c.requires c.say_joined.ensures.said
 
--- where the parts are joined, the errors get what is told beside it
-pub returns-in-Ok-join-clause-told : goal.returns-in-Ok-join-clause-told
-returns-in-Ok-join-clause-told g c =
-    let read = c.with_bytes-read in
-    let is = c.in-Ok-read.ensures.exact ∙ ap board_of_text c.as_slice.ensures.value in
-    tells_joined (parts_shown c.args.asked.now) {mid = g.I.Io.world c.read_inputs.new.io} read.result.board.items
-    (all_bytes read.result.answers.items) c.in-Ok-read.board c.in-Ok.ensures.read read.ensures.inputs is c.in-Ok-join.joined
-    (rw (read.ensures.bound, read.ensures.count, read.ensures.goal, c.as_slice-2.ensures.value, c.as_slice-3.ensures.value) at c.in-Ok-join.ensures) _ _
-    c.say_joined.result.status c.say_joined.ensures.told
+-- where the text spells no board, the run ends with its refusal
+pub returns-in-Err-Board-clause-ends : goal.returns-in-Err-Board-clause-ends
+returns-in-Err-Board-clause-ends g c =
+    let arguments = parts_shown c.args.asked.now in
+    let read = c.in-Ok.ensures.read in
+    let is = rw c.in-Err-Board.field-0-is at (c.in-Err-Board.ensures arguments read.text arguments.answers read.answers read.is) in
+    ends_replied arguments read.text read.answers read.read c.requires _ (refused_reply arguments read.text read.answers read.read c.in-Err-Board.why is)
+    c.say_refused.ensures.said
 
--- where the text spells a board, the run ends with what comes of its parts
-pub returns-clause-ends : goal.returns-clause-ends
-returns-clause-ends g c =
-    let read = c.with_bytes-read in
-    let is = c.in-Ok-read.ensures.exact ∙ ap board_of_text c.as_slice.ensures.value in
-    ends_unjoined (parts_shown c.args.asked.now) c.requires {mid = g.I.Io.world c.read_inputs.new.io} read.result.board.items
-    (all_bytes read.result.answers.items) c.in-Ok-read.board c.in-Ok.ensures.read read.ensures.inputs is
-    (rw c.as_slice.ensures.value at c.in-Ok-read.ensures.ok) c.say_no_memory.ensures.said
+-- and nothing is told beside it
+pub returns-in-Err-Board-clause-told : goal.returns-in-Err-Board-clause-told
+returns-in-Err-Board-clause-told g c =
+    let arguments = parts_shown c.args.asked.now in
+    let read = c.in-Ok.ensures.read in
+    let is = rw c.in-Err-Board.field-0-is at (c.in-Err-Board.ensures arguments read.text arguments.answers read.answers read.is) in
+    refused_tells arguments read.text read.answers read.read c.in-Err-Board.why is _ c.say_refused.result.status
+
+-- where memory was wanted, that is said
+pub returns-in-Err-Memory-clause-ends : goal.returns-in-Err-Memory-clause-ends
+returns-in-Err-Memory-clause-ends g c =
+    let arguments = parts_shown c.args.asked.now in
+    let read = c.in-Ok.ensures.read in
+    let is = rw c.in-Err-Memory.field-0-is at (c.in-Err-Memory.ensures arguments read.text arguments.answers read.answers read.is) in
+    ends_unjoined arguments read.text read.answers read.read is.0 is.1 c.say_no_memory.ensures.said

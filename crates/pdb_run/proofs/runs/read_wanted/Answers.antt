@@ -1,8 +1,7 @@
 use Rattle.std.proofs.Common.{sym}
 use Rattle.std.proofs.lemmas.List.{length-map}
-use Rattle.pdb_run.specs.Runs.{unread}
 use Rattle.pdb_run.proofs.ReadingLemmas.{AreRead-length}
-use Rattle.pdb_run.proofs.AnswerLemmas.{ends_so}
+use Rattle.pdb_run.proofs.AnswerLemmas.{ends_unread}
 use Rattle.pdb_run.proofs.runs.read_wanted.Goals as goal
 
 -- where all inputs are read, they are those that the plan of the command names
@@ -17,7 +16,4 @@ returns-in-Ok-load_all-clause-count g c =
 
 -- where an input can't be read, saying so ends the run as its plan says
 pub returns-in-Err-clause-ends : goal.returns-in-Err-clause-ends
-returns-in-Err-clause-ends g c =
-    let stopped = rw c.requires at c.in-Err.ensures.unread in
-    ends_so (unread _ c.in-Err.fault.why) c.say_unread.ensures.said stopped.first tt stopped.files
-    (stopped.first.before, stopped.first.behind, stopped.first.order, stopped.calls) tt tt stopped.written
+returns-in-Err-clause-ends g c = ends_unread (rw c.requires at c.in-Err.ensures.unread) c.say_unread.ensures.said

@@ -9,7 +9,7 @@ use Rattle.puz_board.specs.declared.moves.Move.{Move}
 use Rattle.puz_goal.specs.Goals.{SolvesFor}
 use Rattle.puz_goal.specs.declared.goals.Goal.{Goal}
 use Rattle.claim_text.specs.Claims.{letters}
-use Rattle.pdb_parts.proofs.joining.false_text.Goals as goal
+use Rattle.pdb_parts.proofs.noting.false_text.Goals as goal
 
 length-moves : {Y : Type 0} (f : ℕ → Option Y) (xs : List ℕ) → length (filter_map f xs) ≡ length (filter (λ x. is_some (f x)) xs)
 length-moves f [] = refl
