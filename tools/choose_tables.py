@@ -168,7 +168,8 @@ class Claim:
 
 def read_claims(name):
     text = sys.stdin.read() if name == "-" else pathlib.Path(name).read_text()
-    claims = [Claim(line, place) for place, line in enumerate(text.splitlines())]
+    lines = enumerate(text.splitlines())
+    claims = [Claim(line, place) for place, line in lines if line.strip() and not line.startswith("#")]
     if len({claim.side for claim in claims}) != 1:
         raise Mistake("there are no claims, or boards of several sides")
     return claims

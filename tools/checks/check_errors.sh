@@ -58,6 +58,8 @@ q1|3 2 1 0\n3 2 1 0 : 06\n
 q2|3 2 1 0\n0 1 2 3 4 5 6 7 8 : 0\n
 refused_claims|3 2 1 0\n0 1 3 2\n
 goal_board|0 1 2 3\n
+remarks|# 3 2 1 0\n\n
+remarks_before|# 4 x 4\n\n0 1 2 3 4 5 6 7 8 9 10 11 12 13 14 15\n# 2 x 2\n3 2 1 0\n
 END
 { cat m3_front && printf 'RL%.0s' {1..500} && echo R; } >m3
 yes 'set 0' | head -n 17 >seventeen_lines
@@ -138,6 +140,8 @@ refused K2|unsolvable_last: the board has no solution, or none of fewer than 255
 refused K4|SIDE and MASK are no pattern: 1 to 3 tiles on side 2, to 8 on sides 3 and 4, to 6 on side 5, and none that isn't on the board|make-table 2 16 made
 refused Q1 at line 1|q1: line 1 is none of `BOARD`, `BOARD ; MOVES`, `BOARD : N` and `BOARD : N part I/K`. At column 11: a bound is a number from 0 to 255, with no zeros before it|prove q1 one_set F12
 refused Q1 at line 1|standard input: line 1 is none of `BOARD`, `BOARD ; MOVES`, `BOARD : N` and `BOARD : N part I/K`. At column 11: a bound is a number from 0 to 255, with no zeros before it|<q1 prove - one_set F12
+refused Q1 at line 2|remarks: line 2 is none of `BOARD`, `BOARD ; MOVES`, `BOARD : N` and `BOARD : N part I/K`. At column 1: the text has no claim|prove remarks one_set F12
+refused Q1 at line 0|/dev/null: line 0 is none of `BOARD`, `BOARD ; MOVES`, `BOARD : N` and `BOARD : N part I/K`. At column 1: the text has no claim|prove /dev/null one_set F12
 refused Q2 at line 1|q2: the board of line 1 is of another side than the tables|prove q2 one_set F12
 refused K2 of 0 1 3 2|boards that have no solution, but one with the blank last: 1: --goal last|prove refused_claims one_set F12
 refused K2 of 0 1 2 3 with the blank last||prove goal_board one_set F12 --goal last
@@ -188,8 +192,6 @@ while IFS='~' read -r claim column what; do
     printf '3 2 1 0\n%b\n' "$claim" >claims
     says 'refused Q1 at line 1' 'prove claims one_set F12' "claims: line 1 is none of $forms. At column $column: $what"
 done <<'END'
-~1~the line is empty
-# boards~1~a line that begins with `#` is no comment here
 \xef\xbb\xbf3 2 1 0~1~a byte order mark stands before the claim
 bound 6 of 3 2 1 0~1~it is an answer: its claim is what stands behind `of`
 3,2,1,0~2~numbers are parted by spaces alone
@@ -340,6 +342,7 @@ refused L5|leaf_4: the log is one of another board|bound next one_set leaf_4 til
 refused K2|swapped: the board has no solution, or none of fewer than 255 moves; with the blank last it has one: --goal last|solve swapped one_set made tiles_1_to_5 tiles_6_to_10
 refused K2|blank_last: the board has no solution, or none of fewer than 255 moves; with the blank last it has one: --goal last|solve blank_last one_set made tiles_1_to_5 tiles_6_to_10
 refused Q2 at line 100|near_q2: the board of line 100 is of another side than the tables|prove near_q2 one_set tiles_1_to_5 tiles_6_to_10
+refused Q2 at line 4|remarks_before: the board of line 4 is of another side than the tables|prove remarks_before one_set tiles_1_to_5 tiles_6_to_10
 END
 
 # What the starts of files don't show, and what the run tells before it checks a table, is told in the end alone.

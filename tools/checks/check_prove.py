@@ -58,7 +58,7 @@ WORKERS = [1, 2, 7, 64]
 ALONE = 65_536
 LONGEST = 12  # moves of a string that need not be tried
 # Bytes that mean something in a claims text, and some that don't.
-TELLING = b"0123456789 \t\r\n;:UDLRu-\x00\xff"
+TELLING = b"0123456789 \t\r\n;:UDLRu-#\x00\xff"
 SMALL_CLAIMS = b"3 2 1 0\n1 0 2 3 : 1\n3 2 1 0 ; ULDRUL\n0 1 2 3 ;\n 3 2 1 0 : 7"
 
 
@@ -256,6 +256,11 @@ def texts_of_many_lines(program, checks):
         lines = written.split(b"\n")[2:-1]
         checks.equal(f"{len(text)} bytes of lines", (len(lines), set(lines)), (wanted, {last}))
         checks.equal(f"{len(text)} bytes of lines: status", status, int(wanted == 1))
+    for remarks in (b"\n" * (most - 1), b"#\n" * (most - 1)):
+        status, written = program.run("prove", "-", "small_sets", "tiles_12", given=remarks + line)
+        checks.equal("a claim behind remarks", (status, written.split(b"\n")[2:]), (0, [b"bound 0 of 0 1 2 3", b""]))
+        status, written = program.run("prove", "-", "small_sets", "tiles_12", given=line + remarks + b"\n")
+        checks.equal("one remark too many", (status, written.split(b"\n")[2:]), (1, [b"refused Q1 at line %d" % most, b""]))
     program.keep("claims", line * 3 + b"0 1 2 3 4 5 6 7 8\n0 1 2 3\n")
     status, written = program.run("prove", "claims", "small_sets", "tiles_12")
     checks.equal("a board of another side", (status, written.split(b"\n")[2:]), (1, [b"refused Q2 at line 3", b""]))

@@ -682,7 +682,7 @@ no_claim() {
     proves claims empty F12_with_FE 1 "refused Q1 at line $1" : --fold --workers 2
 }
 letters_1000=$(printf 'RL%.0s' {1..500})
-for text in '' '\n' ' ' 'x' '3 2 1' '3 2 1 0 2' '3 2 1 3' '3 2 1 4' '003 2 1 0' '3,2,1,0' '3 2 1 0 ; u' '3 2 1 0 ;; U' \
+for text in '' 'x' ' # 3 2 1 0' '3 2 1 0 # 6' '3 2 1' '3 2 1 0 2' '3 2 1 3' '3 2 1 4' '003 2 1 0' '3,2,1,0' '3 2 1 0 ; u' '3 2 1 0 ;; U' \
     '3 2 1 0 ; U : 6' '3 2 1 0 : 6 ; U' '; U' ': 6' '3 2 1 0 :' '3 2 1 0 : 06' '3 2 1 0 : 256' '3 2 1 0 : -1' '3 2 1 0 : 1 2' \
     '3 2 1 0 : 6 : 6' '3 2 1 0 : 6.' '3 2 1 0 : +6' '3 2 1 0 : 1000' 'optimal 6 of 3 2 1 0' "0 1 2 3 ;${letters_1000}R" \
     '3 2 1 0 : 6 part' '3 2 1 0 : 6 part 0' '3 2 1 0 : 6 part 0/' '3 2 1 0 : 6 part /3' '3 2 1 0 : 6 part 0/2' \
@@ -692,6 +692,16 @@ for text in '' '\n' ' ' 'x' '3 2 1' '3 2 1 0 2' '3 2 1 3' '3 2 1 4' '003 2 1 0' 
     no_claim 0 "$text"
     [ -z "$text" ] || no_claim 1 "3 2 1 0\n$text\n3 2 1 0\nx\n"
 done
+# Blank lines and lines that begin with `#` count as lines, and have no answers.
+no_claim 1 '\n'
+no_claim 1 ' '
+no_claim 3 '# 3 2 1 0\r\n\n\t \r\n'
+no_claim 4 '\n#\n3 2 1 0\n \nx\n'
+printf '# true\r\n\r\n3 2 1 0 : 6\r\n#3 2 1 0 : 7\n\t \n1 0 2 3 : 1\n\n#' >claims_and_remarks
+proves_each_way claims_and_remarks one_set F12 0 'bound 6 of 3 2 1 0' 'bound 1 of 1 0 2 3'
+proves_each_way claims_and_remarks one_set F24 1 'refused Q2 at line 2'
+printf '3 2 1 0\n\n# 0 1 2 3 4 5 6 7 8\n0 1 2 3 4 5 6 7 8 : 1\n' >claims_and_remarks
+proves_each_way claims_and_remarks one_set F12 1 'refused Q2 at line 3'
 printf '0 1 2 3 ;%s' "$letters_1000" >claims
 proves claims one_set F12 1 "refused O2 by of 0 1 2 3 ; $letters_1000" :
 printf '3 2 1 0\n0 1 2 3 4 5 6 7 8 : 1\n3 2 1 0\n0 1 2 3 4 5 6 7 8\n' >claims_of_two_sides
@@ -1208,7 +1218,7 @@ told_paces_alone() {
         [ "$(grep -Ecx "$effort" "$work/paces")" = 2 ] && tail -n 2 "$work/paces" | head -n 1 | grep -Eqx "$effort" &&
         [ "$(tail -n 1 "$work/paces")" = 'pdb_cli: 1 claim: 1 bound' ]
 }
-echo '8 0 6 5 4 7 2 3 1 : 29' >claims
+printf '# 31 moves\n\n8 0 6 5 4 7 2 3 1 : 29\n' >claims
 run prove claims one_set three_of_side_3
 own_status=$status
 mv "$work/output" "$work/own_answer"

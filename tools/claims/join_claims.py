@@ -33,6 +33,8 @@ def read_claims(name):
     except (OSError, ValueError) as error:
         stop(f"{name}: {error}")
     for number, line in enumerate(lines):
+        if not line.strip() or line.startswith("#"):
+            continue
         found = re.fullmatch(r"([\d\s]+?)\s*(?::\s*(\d+)|;\s*([UDLR\s]*))\s*", line.strip())
         if not found:
             stop(f"line {number} of {name} is neither `BOARD : N` nor `BOARD ; MOVES`")

@@ -37,6 +37,8 @@ def read_claims(name):
     except (OSError, ValueError) as error:
         sys.exit(f"many_boards.py: {name}: {error}")
     for number, line in enumerate(lines):
+        if not line.strip() or line.startswith("#"):
+            continue
         found = re.fullmatch(r"\s*([\d\s]+?)\s*:\s*(\d+)\s*", line)
         if not found:
             sys.exit(f"many_boards.py: line {number} of {name} is no `BOARD : N`")

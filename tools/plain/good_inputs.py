@@ -265,6 +265,8 @@ def claim_line(draw, side, steps):
 def claims_text(draw, side):
     steps = {2: 6, 3: 12, 4: 7, 5: 5}[side]
     lines = [claim_line(draw, side, steps) for _ in range(draw.choice([1, 1, 2, 3, 5, 20]))]
+    for _ in range(draw.choice([0, 0, 1, 3])):
+        lines.insert(draw.randint(0, len(lines)), draw.choice([b"", b" \t", b"\r", b"# 3 2 1 0 : 7", b"#", b"#\r"]))
     return b"\n".join(lines) + draw.choice([b"\n", b"\n", b""])
 
 

@@ -22,7 +22,7 @@ MOST_TILES = {2: 3, 3: 8, 4: 8, 5: 6}
 NO_REGION, NEVER = 254, 255
 BRANCH, LEAF, CITATION, PARITY_LEAF = 0x00, 0x01, 0x20, 0x41
 TEXT_LIMIT, CLAIMS_LIMIT, ANSWERS_LIMIT, LOG_LIMIT, TABLE_LIMIT = 65_536, 2**26, 2**26, 2**30, 2**32
-MOST_LEMMAS = MOST_CLAIMS = 1_048_576
+MOST_LEMMAS = MOST_LINES = 1_048_576
 MOST_LETTERS = 1000
 MOST_PARTS = 65_535
 USUAL_BUDGET = 1_000_000
@@ -196,16 +196,21 @@ def read_claim(line):
 
 
 def read_claims(text):
-    """The claims of the lines, of which the last may lack its LF."""
-    lines = text.removesuffix(b"\n").split(b"\n")
+    """The claims of the lines, each with the number of its line, without the lines that are blank or begin with `#`. The last
+    line may lack its LF."""
+    lines = text.removesuffix(b"\n").split(b"\n") if text else []
     claims = []
     for number, line in enumerate(lines):
+        if number == MOST_LINES:
+            raise Refused(f"Q1 at line {number}")
+        if line.startswith(b"#") or not line.strip(SEPARATORS):
+            continue
         try:
-            claims.append(read_claim(line))
+            claims.append((number, read_claim(line)))
         except Refused:
             raise Refused(f"Q1 at line {number}") from None
-        if number == MOST_CLAIMS:
-            raise Refused(f"Q1 at line {number}")
+    if not claims:
+        raise Refused(f"Q1 at line {len(lines)}")
     return claims
 
 
@@ -886,12 +891,12 @@ def claims_answered(run, ended, inputs):
     claims = read_claims(text)
     tables = read_tables(files, run.fold)
     read_sets(set_text, tables)
-    for number, claim in enumerate(claims):
+    for number, claim in claims:
         if side_of(claim.board) != tables[0].pattern.side:
             raise Refused(f"Q2 at line {number}")
     told = ended.written.split(b"\n")[len(files) + 1 :]
     pairs = itertools.zip_longest(claims, told[: len(claims)], fillvalue=b"")
-    return [right_line(claim, line, run.boards) for claim, line in pairs]
+    return [right_line(claim, line, run.boards) for (_, claim), line in pairs]
 
 
 def refuting_moves(line, board, bound, count):

@@ -1,6 +1,6 @@
 -- The lines that answer claims.
-use Rattle.std.proofs.Common.{◌≡◌, ℕ, zero, suc, ◌+◌, ◌*◌, ◌/◌, ◌%◌, ◌<◌, ◌≤◌, Bool, true, false, List, [], ◌∷◌, ◌++◌, append_assoc, append-nil, None}
-use Rattle.std.proofs.Common.{cond, length, length-append, get_or, take, drop, eqb, ltb, not, refl, sym, ◌∙◌, ap, subst, arith, codes, decimal, inl}
+use Rattle.std.proofs.Common.{◌≡◌, ℕ, suc, ◌+◌, ◌*◌, ◌<◌, ◌≤◌, Bool, true, false, List, [], ◌∷◌, ◌++◌, append_assoc, append-nil, None}
+use Rattle.std.proofs.Common.{cond, length, length-append, get_or, take, drop, eqb, not, refl, sym, ◌∙◌, ap, subst, arith, codes, decimal, inl}
 use Rattle.std.proofs.Common.{inr, lit<}
 use Rattle.std.proofs.Math.Seq.{drop-cons}
 use Rattle.std.proofs.lemmas.Bool.{cases_lt, cond-false, cond-true, ne_eqb, not_from_false}

@@ -1,12 +1,12 @@
 -- Bounds and their parts, as claims say them.
-use Rattle.std.proofs.Common.{◌≡◌, ℕ, ◌<◌, ◌≤◌, List, [], ◌∷◌, ◌++◌, append_assoc, Option, Some, None, Ok, Err, Result, lit<, refl, sym, ◌∙◌, ap}
+use Rattle.std.proofs.Common.{◌≡◌, ℕ, ◌<◌, ◌≤◌, List, [], ◌∷◌, ◌++◌, append_assoc, Option, Some, None, Ok, Err, Result, lit<, sym, ◌∙◌, ap}
 use Rattle.std.proofs.Common.{subst, arith, codes, decimal}
 use Rattle.std.specs.Option.{SomeIff}
 use Rattle.std.specs.Prelude.{IfNone}
 use Rattle.std.specs.Result.{OkIff, result_ok}
 use Rattle.puz_board.specs.BoardTexts.{parts}
 use Rattle.move_strings.specs.BoundParts.{IsPart, ShownPart}
-use Rattle.claim_text.specs.Claims.{HasNo, IsCutAt, ShownAsks, SpellsAsks, SpellsBound, SpellsPart, bound, moves, part, part_words, shortest}
+use Rattle.claim_text.specs.Claims.{HasNo, IsCutAt, ShownAsks, SpellsAsks, bound, moves, part, part_words, shortest}
 use Rattle.claim_text.proofs.CutLemmas.{cut_nowhere, one_cut}
 use Rattle.claim_text.proofs.DecimalLemmas.{decimal-no, one_decimal}
 

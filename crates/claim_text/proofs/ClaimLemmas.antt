@@ -1,5 +1,5 @@
 -- A line is one claim at most, and when it is none.
-use Rattle.std.proofs.Common.{◌≡◌, ℕ, List, [], ◌∷◌, Option, Some, None, refl, sym, ◌∙◌, ap, subst}
+use Rattle.std.proofs.Common.{◌≡◌, ℕ, List, Option, Some, None, refl, sym, ◌∙◌, ap, subst}
 use Rattle.std.specs.Prelude.{IfNone, is_some, true, false}
 use Rattle.puz_board.specs.BoardTexts.{Spells}
 use Rattle.claim_text.specs.Claims.{HasNo, IsClaim, IsClaimOf, IsColonClaim, IsCutAt, IsMovesText, IsNoClaim, ShownAsks, ShownClaim, SpellsAsks}

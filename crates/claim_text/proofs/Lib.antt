@@ -6,5 +6,7 @@ pub mod DecimalLemmas
 pub mod LetterLemmas
 mod NumeralLemmas
 pub mod ReadingLemmas
+pub mod RemarkLemmas
+mod SideLemmas
 pub mod ToldLemmas
 mod WordLemmas

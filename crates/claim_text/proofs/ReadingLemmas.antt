@@ -1,5 +1,5 @@
 -- What a text of claims is read as: one thing.
-use Rattle.std.proofs.Common.{◌≡◌, ℕ, zero, suc, ◌+◌, ◌<◌, ◌≤◌, ◌^◌, List, [], ◌∷◌, ◌++◌, add-one, length, length-drop, get_or, drop, take, true}
+use Rattle.std.proofs.Common.{◌≡◌, ℕ, zero, suc, ◌+◌, ◌<◌, ◌≤◌, List, [], ◌∷◌, ◌++◌, add-one, length, length-drop, get_or, drop, take, true}
 use Rattle.std.proofs.Common.{false, refl, sym, ◌∙◌, ap, subst, arith, inl, inr}
 use Rattle.std.proofs.Math.Seq.{drop-cons}
 use Rattle.std.proofs.lemmas.Bool.{cases_lt}
@@ -7,14 +7,12 @@ use Rattle.std.proofs.lemmas.List.Elements.{All-head, All-tail}
 use Rattle.std.specs.Prelude.{IfSome, Option, Some, None, is_some, map}
 use Rattle.std.proofs.lemmas.List.{take_more}
 use Rattle.std.specs.List.{All, AllZip}
-use Rattle.puz_board.specs.Boards.{IsBoard, side_of}
-use Rattle.puz_board.specs.BoardTexts.{Spells, numbers_in}
-use Rattle.claim_text.specs.Claims.{IsClaim, IsClaimOf, IsNoClaim, ShownAsks, ShownClaim, bound, moves, part, shortest}
+use Rattle.claim_text.specs.Claims.{IsClaim, IsClaimOf, ShownAsks, ShownClaim, bound, moves, part, shortest}
 use Rattle.claim_text.specs.Laws.{ClaimsHaveNoFault, TextsHaveOneFault, TextsHaveOneReading}
 use Rattle.claim_text.specs.Lines.{AreFewLetters, HasFewLetters}
-use Rattle.claim_text.specs.Texts.{AreClaims, IsFirstNoClaim, SaysClaim, lines_of}
-use Rattle.claim_text.proofs.AnswerLemmas.{no_side}
-use Rattle.claim_text.proofs.ClaimLemmas.{no_shortest_claim, one_claim}
+use Rattle.claim_text.specs.Texts.{AreClaims, IsFirstNoClaim, SaysClaim, claim_lines, lines_of, most_lines}
+use Rattle.claim_text.proofs.ClaimLemmas.{one_claim}
+use Rattle.claim_text.proofs.RemarkLemmas.{claims_say}
 
 same_claims : (lines : List (List ℕ)) (a b : List ShownClaim) → AllZip IsClaim lines a → AllZip IsClaim lines b → a ≡ b
 same_claims [] [] [] p q = refl
@@ -29,13 +27,22 @@ same_claims (line ∷ lines) (x ∷ xs) (y ∷ ys) p q =
 
 -- a text is one list of claims at most
 pub one_reading : TextsHaveOneReading
-one_reading text a b p q = same_claims (lines_of text) a b p.lines q.lines
+one_reading text a b p q = same_claims (claim_lines text) a b p.lines q.lines
 
 -- what is the first line that is none isn't passed by a later one
 not_later : (text : List ℕ) (a b : ℕ) → IsFirstNoClaim text a → IsFirstNoClaim text b → ¬ (a < b)
 not_later text a b p q below = elim p.none [
-  | inl none ↦ let says = q.before a below in none says.0 says.1
-  | inr most ↦ let room = q.room in omega arith
+  | inl bad ↦ elim bad.bad [
+    | inl none ↦ elim (q.before a below) [
+      | inl says ↦ none.0 says.0 says.1
+      | inr is ↦ (let no : true ≡ false = sym is ∙ none.1 in cc)
+    ]
+    | inr most ↦ let room = q.room in omega arith
+  ]
+  | inr alone ↦ elim q.none [
+    | inl bad ↦ omega (arith, alone.all, bad.there, below)
+    | inr other ↦ omega (arith, alone.all, other.all, below)
+  ]
 ]
 
 -- a text has one first line at most that is no claim
@@ -48,13 +55,6 @@ one_fault text a b p q = elim (cases_lt a b) [
   ]
 ]
 
-claims_say : (lines : List (List ℕ)) (claims : List ShownClaim) → AllZip IsClaim lines claims → (k : ℕ) (d : List ℕ) → k < length lines
-    → SaysClaim (get_or lines k d)
-claims_say [] claims all k d within = absurd (omega arith)
-claims_say (line ∷ lines) [] all k d within = absurd all
-claims_say (line ∷ lines) (x ∷ xs) all zero d within = (x, all.0)
-claims_say (line ∷ lines) (x ∷ xs) all (suc k) d within = claims_say lines xs all.1 k d (omega arith)
-
 -- as many claims as lines
 pub length-claims : (lines : List (List ℕ)) (claims : List ShownClaim) → AllZip IsClaim lines claims → length claims ≡ length lines
 length-claims [] [] all = refl
@@ -64,17 +64,15 @@ length-claims (line ∷ lines) (x ∷ xs) all = ap suc (length-claims lines xs a
 
 -- a text of claims has none
 pub no_fault : ClaimsHaveNoFault
-no_fault text claims number p q =
-    let size = length-claims (lines_of text) claims p.lines in
-    elim q.there [
-      | inl within ↦ elim q.none [
-        | inl none ↦ let says = claims_say (lines_of text) claims p.lines number [] within in none says.0 says.1
-        | inr most ↦ let few = p.few in omega arith
-      ]
-      | inr empty ↦
-          let few : length (lines_of text) ≡ 0 = ap (λ t. length (lines_of t)) empty.0 in
-          let some = p.some in omega arith
-    ]
+no_fault text claims number p q = elim q.none [
+  | inl bad ↦ elim bad.bad [
+    | inl none ↦ let says = claims_say (lines_of text) claims p.lines number [] bad.there none.1 in none.0 says.0 says.1
+    | inr most ↦ omega (arith, bad.there, most, p.few)
+  ]
+  | inr alone ↦
+      let size = length-claims (claim_lines text) claims p.lines in
+      omega (arith, size, ap length alone.none, p.some)
+]
 
 -- ---- letters
 
@@ -141,27 +139,13 @@ claims_there (line ∷ lines) all =
     let rest = claims_there lines (All-tail SaysClaim line lines all) in
     (first.0 ∷ rest.0, (first.1, rest.1))
 
--- a text whose lines are claims, so many of them
-pub are_claims : (text : List ℕ) (count : ℕ) (claims : List ShownClaim) → length (lines_of text) ≡ count → 1 ≤ count → count ≤ 2 ^ 20
-    → AllZip IsClaim (lines_of text) claims
+-- a text whose lines are claims, so many of them, and remarks
+pub are_claims : (text : List ℕ) (count : ℕ) (claims : List ShownClaim) → length (claim_lines text) ≡ count → 1 ≤ count
+    → length (lines_of text) ≤ most_lines → AllZip IsClaim (claim_lines text) claims
     → AreClaims text claims
 are_claims text count claims size some few all =
-    let same = length-claims (lines_of text) claims all in
-    record { lines = all; some = omega arith; few = omega arith }
-
-no_numbers : numbers_in [] ≡ []
-unfolding numbers_in
-no_numbers = refl
-
--- no claim is an empty line
-pub no_empty_claim : IsNoClaim []
-no_empty_claim = no_shortest_claim [] (λ k d l. absurd (omega arith)) (λ k d l. absurd (omega arith)) no_board
-  where
-    no_board : (b : List ℕ) → ¬ Spells [] b
-    no_board b spelled =
-        let empty : [] ≡ b = sym no_numbers ∙ spelled.numbers in
-        let board : IsBoard [] = subst IsBoard (sym empty) spelled.board in
-        let low : 2 ≤ side_of [] = board.low in no_side low
+    let same = length-claims (claim_lines text) claims all in
+    record { lines = all; some = omega arith; few = few }
 
 -- a line of which a claim was read says one
 pub says_claim : {A : Type 0} (shown : A → ShownClaim) (line : List ℕ) (r : Option A) → is_some r ≡ true → IfSome r (λ x. IsClaim line (shown x))

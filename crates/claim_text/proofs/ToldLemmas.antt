@@ -1,5 +1,5 @@
 -- Lines that say that parts of a bound hold.
-use Rattle.std.proofs.Common.{◌≡◌, ℕ, ◌-◌, ◌<◌, ◌≤◌, true, List, [], ◌∷◌, ◌++◌, append_assoc, drop, eqb, length, lit<, not, refl, sym, take, ◌∙◌, ap, subst}
+use Rattle.std.proofs.Common.{◌≡◌, ℕ, ◌-◌, ◌<◌, ◌≤◌, true, List, ◌∷◌, ◌++◌, append_assoc, drop, eqb, length, lit<, not, refl, take, ◌∙◌, ap, subst}
 use Rattle.std.proofs.Common.{arith, codes, decimal}
 use Rattle.std.proofs.lemmas.List.{length-drop, take_all, take_at}
 use Rattle.std.proofs.lemmas.List.Elements.{All-append, All-take}
@@ -12,7 +12,7 @@ use Rattle.claim_text.specs.Claims.{HasNo, IsCutAt, ShownClaim}
 use Rattle.claim_text.specs.Lines.{claim_words, numbers, part_bounded, refused, told_line}
 use Rattle.claim_text.specs.Parts.{AreParts, part_at, part_claim}
 use Rattle.claim_text.proofs.CutLemmas.{cut_nowhere, one_cut}
-use Rattle.claim_text.proofs.DecimalLemmas.{decimal-no, one_decimal}
+use Rattle.claim_text.proofs.DecimalLemmas.{decimal-no}
 
 -- what stands behind the `/` of a line that says that a part holds
 told_rest : Goal → ShownPart → ℕ → List ℕ → List ℕ

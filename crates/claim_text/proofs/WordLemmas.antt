@@ -2,17 +2,18 @@
 use Rattle.std.proofs.Common.{◌≡◌, ℕ, suc, ◌<◌, get_or-take, Bool, true, false, List, [], ◌∷◌, ◌++◌, length, get_or, take, drop, ltb, not, refl, sym}
 use Rattle.std.proofs.Common.{◌∙◌, ap, subst, arith, Some, None, inl, inr}
 use Rattle.std.proofs.Math.Seq.{drop-cons}
-use Rattle.std.proofs.lemmas.Bool.{cases_Bool, cases_eq, cond-true, lt-ltb, not-false, not-true}
+use Rattle.std.proofs.lemmas.Bool.{cases_eq, cond-true, lt-ltb, not-false, not-true}
 use Rattle.std.proofs.lemmas.Grind.{get_or_default_zero}
 use Rattle.std.proofs.lemmas.List.{length-take-le, take-append-drop}
-use Rattle.std.proofs.lemmas.List.Elements.{All-cons, All-head, All-tail}
-use Rattle.std.proofs.lemmas.List.Splits.{slice_split-cons_yes, slice_split-cons_no, slice_split_none, slice_split_at}
-use Rattle.std.specs.Prelude.{Option, filter, is_some, nat_lt, position}
-use Rattle.std.specs.List.{All, AllPass, onto_first, slice_split}
+use Rattle.std.proofs.lemmas.List.Elements.{All-head, All-tail}
+use Rattle.std.proofs.lemmas.List.Splits.{slice_split-cons_yes, slice_split_none, slice_split_at}
+use Rattle.std.specs.Prelude.{filter, nat_lt, position}
+use Rattle.std.specs.List.{All, AllPass, slice_split}
 use Rattle.puz_board.specs.BoardTexts.{is_separator, parts}
-use Rattle.puz_board.proofs.FirstLemmas.{AllPass-position, fails_each, first-position, position-AllPass}
+use Rattle.puz_board.proofs.FirstLemmas.{AllPass-position, fails_each, first-position}
 
-abbrev kept : List (List ℕ) → List (List ℕ)
+-- the parts that aren't empty
+abbrev pub kept : List (List ℕ) → List (List ℕ)
 kept all = filter (λ part. nat_lt 0 (length part)) all
 
 -- no byte is a separator
@@ -32,7 +33,8 @@ parts-blank (x ∷ xs) all =
     ap kept (slice_split-cons_yes is_separator x xs (All-head (λ b. is_separator b ≡ true) x xs all)) ∙
     parts-blank xs (All-tail (λ b. is_separator b ≡ true) x xs all)
 
-kept-some : (x : ℕ) (xs : List ℕ) (all : List (List ℕ)) → kept ((x ∷ xs) ∷ all) ≡ (x ∷ xs) ∷ kept all
+-- a part with a byte is kept
+pub kept-some : (x : ℕ) (xs : List ℕ) (all : List (List ℕ)) → kept ((x ∷ xs) ∷ all) ≡ (x ∷ xs) ∷ kept all
 kept-some x xs all = cond-true (ltb 0 (suc (length xs))) ((x ∷ xs) ∷ kept all) (kept all) (lt-ltb 0 (suc (length xs)) (omega arith))
 
 parts-word : (x : ℕ) (xs : List ℕ) → IsWord (x ∷ xs) → parts (x ∷ xs) ≡ (x ∷ xs) ∷ []

@@ -1,12 +1,12 @@
 -- Laws of texts of claims, of moves texts, and of the lines that answer claims.
-use Rattle.std.specs.Prelude.{◌≡◌, ℕ, ◌||◌, List, ◌++◌}
+use Rattle.std.specs.Prelude.{◌≡◌, ℕ, ◌||◌, true, List, ◌++◌}
 use Rattle.std.specs.List.{AllPass}
 use Rattle.puz_board.specs.BoardTexts.{is_separator}
 use Rattle.puz_board.specs.MovesTexts.{Solves, is_letter}
 use Rattle.puz_goal.specs.declared.goals.Goal.{Goal}
-use Rattle.claim_text.specs.Claims.{HasNo, ShownClaim, letters}
+use Rattle.claim_text.specs.Claims.{HasNo, IsNoClaim, ShownClaim, letters}
 use Rattle.claim_text.specs.Lines.{Told, WhatHasNoLf, beginning, told_line, told_text}
-use Rattle.claim_text.specs.Texts.{AreClaims, IsFirstNoClaim}
+use Rattle.claim_text.specs.Texts.{AreClaims, IsFirstNoClaim, is_remark}
 
 -- a text is one list of claims at most
 abbrev pub TextsHaveOneReading : Type 0
@@ -19,6 +19,10 @@ TextsHaveOneFault = (text : List ℕ) (a b : ℕ) → IsFirstNoClaim text a → 
 -- a text of claims has none
 abbrev pub ClaimsHaveNoFault : Type 0
 ClaimsHaveNoFault = (text : List ℕ) (claims : List ShownClaim) (number : ℕ) → AreClaims text claims → ¬ IsFirstNoClaim text number
+
+-- no remark is a claim
+abbrev pub RemarksAreNoClaims : Type 0
+RemarksAreNoClaims = (line : List ℕ) → is_remark line ≡ true → IsNoClaim line
 
 -- the letters of a moves text that solves a board solve it, in as many moves
 abbrev pub SolvesByLetters : Type 0

@@ -1,5 +1,5 @@
 -- Parts of one bound.
-use Rattle.std.specs.Prelude.{◌≡◌, ℕ, ◌<◌, ◌%◌, ◌≤◌, List}
+use Rattle.std.specs.Prelude.{◌≡◌, ℕ, ◌%◌, ◌≤◌, List}
 use Rattle.move_strings.specs.BoundParts.{ShownPart}
 use Rattle.claim_text.specs.Claims.{ShownClaim, part}
 

@@ -18,6 +18,13 @@ pub(crate) fn is_separator(b: u8) -> bool
     matches!(b, b' ' | b'\t' | b'\r' | b'\n')
 }
 
+/// Whether a text has separators alone.
+pub(crate) fn are_separators(text: &[u8]) -> bool
+    ensures { result ≡ list_all is_separator text.now }
+{
+    text.iter().all(|b| is_separator(*b))
+}
+
 /// Whether a byte is one of the letters U, D, L and R.
 pub(crate) fn is_letter(b: u8) -> bool
     ensures { result ≡ is_letter b }

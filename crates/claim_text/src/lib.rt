@@ -9,6 +9,7 @@ mod faults;
 pub mod laws;
 mod letters;
 mod numerals;
+mod sides;
 mod texts;
 mod told_parts;
 mod words;
@@ -20,5 +21,6 @@ pub use answers::{
 pub use claims::{Asks, Claim};
 pub use faults::ClaimsFault;
 pub use letters::MOST_MOVES;
-pub use texts::{MOST_CLAIMS, read_claims};
+pub use sides::first_of_another_side;
+pub use texts::{MOST_LINES, is_remark, read_claims};
 pub use told_parts::{RefusedPart, refused_part, told_index};

@@ -1,8 +1,8 @@
 //! Texts of claims, a claim a line.
 
-ghost use Rattle.std.specs.Prelude.{◌≡◌, ◌≤◌, ◌<◌, ◌⊎◌, ℕ, Err, IfErr, IfOk, IsOkAnd, List, length, map};
+ghost use Rattle.std.specs.Prelude.{◌≡◌, ◌≤◌, ◌⊎◌, ℕ, Err, IfErr, IfOk, IsOkAnd, List, length, map};
 ghost use Rattle.claim_text.specs.Claims.{IsClaim, ShownClaim};
-ghost use Rattle.claim_text.specs.Texts.{AreClaims, IsFirstNoClaim, SaysClaim, lines_of};
+ghost use Rattle.claim_text.specs.Texts.{AreClaims, IsFirstNoClaim, SaysClaim, claim_lines, is_remark, lines_of};
 ghost use Rattle.claim_text.specs.Lines.{HasFewLetters};
 ghost use Rattle.claim_text.specs.Shown.{claim_shown};
 ghost use Rattle.std.specs.List.{All, AllZip};
@@ -11,13 +11,22 @@ ghost use Rattle.claim_text.specs.declared.faults.ClaimsFault.TheVariants.{Memor
 use crate::claims::{Claim, read_claim};
 use crate::cuts::split_line;
 use crate::faults::ClaimsFault;
+use crate::letters::are_separators;
 use std::alloc::{AllocError, Global};
 
-/// How many claims a text may have.
-pub const MOST_CLAIMS: u32 = 1_048_576;
+/// How many lines a text of claims may have.
+pub const MOST_LINES: u32 = 1_048_576;
 
-/// The claims of a text, which has a claim a line. Each line ends with an LF, which the last one may lack; behind a last LF
-/// there is no line.
+#[tactic(auto, unfolding(crate::specs::Texts::is_remark))]
+/// Whether a line is a remark: it has separators alone, or begins with `#`.
+pub fn is_remark(line: &[u8]) -> bool
+    ensures { result ≡ is_remark line.now }
+{
+    are_separators(line) || line[0] == b'#'
+}
+
+/// The claims of a text, which has a claim a line, and remarks between them. Each line ends with an LF, which the last one may
+/// lack; behind a last LF there is no line.
 pub fn read_claims<'a>(alloc: Global, text: &'a [u8]) -> Result<Vec<Claim<'a>>, ClaimsFault>
     // Claims come exactly of a text that has them. Only want of memory keeps them back.
     ensures ok { IfOk result (λ claims. AreClaims text.now (map claim_shown claims.items)) }
@@ -47,39 +56,45 @@ pub fn read_claims<'a>(alloc: Global, text: &'a [u8]) -> Result<Vec<Claim<'a>>, 
 
 /// How many claims a text has, or the number of the first line that is none.
 fn count_claims(text: &[u8]) -> Result<u32, u32>
-    ensures count { IfOk result (λ count. length (lines_of text.now) ≡ count) }
+    ensures count { IfOk result (λ count. length (claim_lines text.now) ≡ count) }
     ensures some { IfOk result (λ count. 1 ≤ count) }
-    ensures few { IfOk result (λ count. count ≤ MOST_CLAIMS) }
-    ensures claims { IfOk result (λ count. All SaysClaim (lines_of text.now)) }
+    ensures few { IfOk result (λ _. length (lines_of text.now) ≤ MOST_LINES) }
+    ensures claims { IfOk result (λ _. All SaysClaim (claim_lines text.now)) }
     ensures err { IfErr result (IsFirstNoClaim text.now) }
 {
+    let mut number = 0;
     let mut count = 0;
     let mut rest = text;
     while let Some((line, behind)) = split_line(rest) {
-        if count == MOST_CLAIMS || read_claim(line).is_none() {
-            return Err(count);
+        let remark = is_remark(line);
+        if number == MOST_LINES || !(remark || read_claim(line).is_some()) {
+            return Err(number);
         }
-        count += 1;
+        count += u32::from(!remark);
+        number += 1;
         rest = behind;
     }
-    if count == 0 { Err(0) } else { Ok(count) }
+    if count == 0 { Err(number) } else { Ok(count) }
 }
 
 /// Lists the claims of a text, which are so many.
 fn list_claims(alloc: Global, text: &[u8], count: u32) -> Result<Vec<Claim<'_>>, AllocError>
-    requires count { length (lines_of text.now) ≡ count }
-    requires claims { All SaysClaim (lines_of text.now) }
+    requires count { length (claim_lines text.now) ≡ count }
+    requires claims { All SaysClaim (claim_lines text.now) }
     ensures { IfOk result (λ claims.
-        AllZip IsClaim (lines_of text.now) (map claim_shown claims.items)) }
+        AllZip IsClaim (claim_lines text.now) (map claim_shown claims.items)) }
 {
     let mut claims = Vec::with_capacity(alloc, count as usize)?;
     let mut rest = text;
     while let Some((line, behind)) = split_line(rest) {
+        rest = behind;
+        if is_remark(line) {
+            continue;
+        }
         let Some(claim) = read_claim(line) else {
             unreachable!();
         };
         claims.push_reserved(claim);
-        rest = behind;
     }
     Ok(claims)
 }

@@ -4,7 +4,7 @@ use crate::fronts::FileStart;
 use crate::headers::patterns_of;
 use crate::logs::{differ, log_fault};
 use crate::sets::sets_fault;
-use claim_text::{Claim, read_claims};
+use claim_text::{first_of_another_side, is_remark, read_claims};
 use log_check::LogRefusal;
 use pdb_request::{LogCheck, LogClaim, Prove, Request, Solve};
 use pdb_verdict::{Fault, begin_claim, is_solvable_last};
@@ -76,7 +76,10 @@ pub fn may_be_last<R: Files>(look: &Look<'_, R>, asked: &Request<'_>) -> bool {
     let first = || {
         let front = look.front(board_file(asked)?)?;
         let text = match asked {
-            Request::Prove(_) => front.bytes().split(|byte| *byte == b'\n').next()?,
+            Request::Prove(_) => {
+                let mut lines = front.bytes().split(|byte| *byte == b'\n');
+                lines.find(|line| !is_remark(line))?
+            }
             _ => front.whole()?,
         };
         let text = text.split(|byte| *byte == b';' || *byte == b':').next()?;
@@ -134,24 +137,22 @@ fn search_fault<R: Files>(look: &Look<'_, R>, search: &Solve<'_, &str>) -> Optio
 /// Of `prove`.
 fn prove_fault<R: Files>(look: &Look<'_, R>, prove: &Prove<Option<&str>, &str>) -> Option<Fault> {
     let front = prove.claims.and_then(|name| look.front(name));
-    let claims = match front.as_ref().and_then(|front| front.whole_lines()) {
-        Some(lines) => Some(read_claims(look.alloc, lines).ok()?),
-        None => None,
-    };
+    let lines = front.as_ref().and_then(|front| front.whole_lines());
+    if lines.is_some_and(|lines| read_claims(look.alloc, lines).is_err()) {
+        return None;
+    }
     match side_of(look, prove.sets, prove.tables.as_slice()) {
-        Ok(side) => {
-            let claims = claims?;
-            let number = of_another_side(claims.as_slice(), side?)?;
-            Some(Fault::Q2(number))
-        }
+        Ok(side) => Some(Fault::Q2(line_of_another_side(look.alloc, lines?, side?)?)),
         Err(fault) => Some(fault),
     }
 }
 
-/// The number of the first of these claims whose board has another side.
-fn of_another_side(claims: &[Claim<'_>], side: Side) -> Option<u32> {
-    let number = claims.iter().position(|claim| claim.board.side() != side)?;
-    u32::try_from(number).ok()
+/// The number of the first of these lines whose claim has a board of another side.
+fn line_of_another_side(alloc: Global, lines: &[u8], side: Side) -> Option<u32> {
+    let Ok(claims) = read_claims(alloc, lines) else {
+        return None;
+    };
+    first_of_another_side(lines, claims.as_slice(), side)
 }
 
 /// The side of tables, where it is seen. Or why the tables, or these and a set text, are refused.

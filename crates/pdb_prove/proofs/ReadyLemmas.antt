@@ -1,10 +1,8 @@
--- The first claim of another side, and the automaton of reversals.
-use Rattle.std.proofs.Common.{◌≡◌, ◌≢◌, ◌==◌, ◌∙◌, not, true, ◌+◌, ◌*◌, ◌<◌, ℕ, zero, suc, List, [], ◌∷◌, ◌++◌, ap, arith, drop, get_or, length, map}
-use Rattle.std.proofs.Common.{inl, inr, refl, subst, sym, take, take-append-drop}
+-- Claims with their starts, and the automaton of reversals.
+use Rattle.std.proofs.Common.{◌≡◌, ◌+◌, ◌*◌, ◌<◌, ℕ, zero, suc, Bool, Err, List, [], ◌∷◌, ◌++◌, Result, arith, get_or, inl, inr, length, map, refl, subst, sym}
 use Rattle.std.specs.List.{All, AllByRecursion}
 use Rattle.std.proofs.lemmas.Bool.{cases_lt}
-use Rattle.std.proofs.lemmas.Grind.{common_steps}
-use Rattle.std.proofs.lemmas.List.{drop_more, get_or_append_left, get_or_push, get_or_read, map-append, take_more}
+use Rattle.std.proofs.lemmas.List.{get_or_append_left, get_or_push, get_or_read}
 use Rattle.puz_board.specs.Boards.{side_of}
 use Rattle.puz_board.specs.declared.moves.Move.{Move}
 use Rattle.puz_board.specs.declared.moves.Move.TheVariants.{Up, Down, Left, Right}
@@ -15,51 +13,24 @@ use Rattle.puz_walk.specs.declared.starts.Start.{Start}
 use Rattle.puz_search.specs.Guides.{LeavesOutReturn}
 use Rattle.claim_text.specs.Claims.{ShownClaim}
 use Rattle.claim_text.specs.Shown.{claim_shown}
+use Rattle.claim_text.specs.Texts.{AreClaims, IsFirstNoClaim}
 use Rattle.claim_text.specs.declared.claims.Claim.{Claim}
-use Rattle.pdb_prove.specs.Prove.{IsFirstOfAnotherSide}
-use Rattle.pdb_prove.specs.Steps.{IsPosed, PrunesFor}
+use Rattle.claim_text.specs.declared.faults.ClaimsFault.{ClaimsFault}
+use Rattle.claim_text.specs.declared.faults.ClaimsFault.TheVariants.{Memory, Q1}
+use Rattle.pdb_prove.specs.Prove.{ClaimsFiles}
+use Rattle.pdb_prove.specs.Steps.{IsCauseForClaims, IsPosed, PrunesFor, of_claims}
 
--- the boards of these claims have this side
-abbrev pub HaveSide : ℕ → List ShownClaim → Type 0
-HaveSide side claims = AllByRecursion (λ claim. side_of claim.board ≡ side) claims
+-- why a text gives no claims is why nothing is searched
+pub claims_cause : (A : Type 0) (fold : Bool) (files : ClaimsFiles) (cause : ClaimsFault)
+    → ((line : ℕ) → ◌≡◌ {A = Result A ClaimsFault} (Err cause) (Err (Q1 line)) → IsFirstNoClaim files.claims line)
+    → (◌≡◌ {A = Result A ClaimsFault} (Err cause) (Err Memory) → (claims : List ShownClaim) × AreClaims files.claims claims)
+    → IsCauseForClaims fold files (of_claims cause)
+claims_cause A fold files (Q1 line) first memory = inl (line, first line refl, refl)
+claims_cause A fold files Memory first memory = memory refl
 
-have_more : (side : ℕ) (before : List ShownClaim) (claim : ShownClaim) → HaveSide side before → side_of claim.board ≡ side
-    → HaveSide side (before ++ claim ∷ [])
-have_more side [] claim all is = (is, tt)
-have_more side (first ∷ before) claim all is = (all.0, have_more side before claim all.1 is)
-
-first_behind : (side : ℕ) (before : List ShownClaim) (claim : ShownClaim) (behind : List ShownClaim) → HaveSide side before
-    → side_of claim.board ≢ side → IsFirstOfAnotherSide side (before ++ claim ∷ behind) (length before)
-first_behind side [] claim behind all other = other
-first_behind side (first ∷ before) claim behind all other = (all.0, first_behind side before claim behind all.1 other)
-
-module _ (side : ℕ) (claims : List Claim) (i : ℕ) (claim : Claim) (low : i < length claims) (is : claim ≡ get_or claims i claim)
-    (all : HaveSide side (map claim_shown (take i claims))) where
-  -- the next claim has the side
-  pub next_side : side_of claim.board ≡ side → HaveSide side (map claim_shown (take (i + 1) claims))
-  next_side same =
-      let more : map claim_shown (take (i + 1) claims) ≡ map claim_shown (take i claims) ++ claim_shown claim ∷ [] =
-      ap (map claim_shown) (take_more claims i claim low) ∙ map-append claim_shown (take i claims) (get_or claims i claim ∷ [])
-      ∙ ap (λ x. map claim_shown (take i claims) ++ claim_shown x ∷ []) (sym is) in
-      rw more (have_more side (map claim_shown (take i claims)) (claim_shown claim) all same)
-
-  -- it is the first that hasn't
-  pub first_other : side_of claim.board ≢ side → IsFirstOfAnotherSide side (map claim_shown claims) i
-  first_other other =
-      let whole : take i claims ++ claim ∷ drop (i + 1) claims ≡ claims =
-      ap (λ y. take i claims ++ y ∷ drop (i + 1) claims) is ∙ rw (← drop_more claims i claim low) (take-append-drop i claims) in
-      let parts : map claim_shown claims ≡ map claim_shown (take i claims) ++ claim_shown claim ∷ map claim_shown (drop (i + 1) claims) =
-      ap (map claim_shown) (sym whole) ∙ map-append claim_shown (take i claims) (claim ∷ drop (i + 1) claims) in
-      let count : length (map claim_shown (take i claims)) ≡ i = grind (arith, common_steps) in
-      subst (λ n. IsFirstOfAnotherSide side (map claim_shown claims) n) count
-      (rw parts (first_behind side (map claim_shown (take i claims)) (claim_shown claim) (map claim_shown (drop (i + 1) claims)) all other))
-
--- numbers that a test tells apart
-pub differ : (a b : ℕ) → true ≡ not (a == b) → a ≢ b
-differ a b e same = grind (arith, common_steps)
-
--- so it is said of each claim by its place
-pub each_side : (side : ℕ) (claims : List Claim) → HaveSide side (map claim_shown claims) → All (λ claim. side_of claim.board ≡ side) claims
+-- where boards have a side, each by its place has it
+pub each_side : (side : ℕ) (claims : List Claim) → AllByRecursion (λ claim. side_of claim.board ≡ side) (map claim_shown claims)
+    → All (λ claim. side_of claim.board ≡ side) claims
 each_side side [] all k d low = absurd (omega (arith, low))
 each_side side (claim ∷ claims) all zero d low = all.0
 each_side side (claim ∷ claims) all (suc k) d low = each_side side claims all.1 k d (omega (arith, low))

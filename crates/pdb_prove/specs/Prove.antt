@@ -1,11 +1,11 @@
 -- `prove CLAIMS SETS TABLES..`: claims, a line each, are answered by a search, in their order.
-use Rattle.std.specs.Prelude.{◌≡◌, ◌≢◌, ℕ, zero, suc, ◌-◌, ◌^◌, ◌⊎◌, Bool, List, [], ◌∷◌, ◌++◌, Option, Some, None, Err, flat_map, map}
+use Rattle.std.specs.Prelude.{◌≡◌, ℕ, ◌-◌, ◌^◌, ◌⊎◌, Bool, List, [], ◌∷◌, ◌++◌, Option, Some, None, Err, flat_map, map}
 use Rattle.std.specs.List.{AllByRecursion, AllZip}
 use Rattle.puz_board.specs.Boards.{side_of}
 use Rattle.puz_goal.specs.declared.goals.Goal.{Goal}
 use Rattle.set_sum.specs.Bundles.{ShownBundle}
 use Rattle.claim_text.specs.Claims.{ShownClaim}
-use Rattle.claim_text.specs.Texts.{AreClaims, IsFirstNoClaim}
+use Rattle.claim_text.specs.Texts.{AreClaims, IsFirstNoClaim, IsFirstOfAnotherSide}
 use Rattle.claim_text.specs.Lines.{Told, told_line}
 use Rattle.byte_io.specs.Shelf.{Bytes}
 use Rattle.byte_io.specs.Streams.{WritesFront}
@@ -44,28 +44,22 @@ pub record AreReady (fold : Bool) (files : ClaimsFiles) (claims : List ShownClai
   pub is_bundle : IsBundleOfFiles fold files.tables files.sets bundle
   pub one_side : AllByRecursion (λ claim. side_of claim.board ≡ bundle.side) claims
 
--- the first claim whose board hasn't this side is that with this number
-abbrev pub IsFirstOfAnotherSide : ℕ → List ShownClaim → ℕ → Type 0
-IsFirstOfAnotherSide side [] number = ⊥
-IsFirstOfAnotherSide side (claim ∷ claims) zero = side_of claim.board ≢ side
-IsFirstOfAnotherSide side (claim ∷ claims) (suc number) = (side_of claim.board ≡ side) × IsFirstOfAnotherSide side claims number
-
 -- the text is of claims, and the table files and the set text are refused for this
 pub record AreClaimsWithoutBundle (fold : Bool) (files : ClaimsFiles) (refused : verdict.Fault) : Type 0 where
   pub claims : List ShownClaim
   pub are_claims : AreClaims files.claims claims
   pub no_bundle : AreRefused fold files.tables files.sets refused
 
--- the text is of claims, of which the one with this number is the first of another side than the bundle
+-- the text is of claims, and the first on a board of another side than the bundle is in the line with this number
 pub record AreOfAnotherSide (fold : Bool) (files : ClaimsFiles) (number : ℕ) : Type 0 where
   pub claims : List ShownClaim
   pub bundle : ShownBundle
   pub are_claims : AreClaims files.claims claims
   pub is_bundle : IsBundleOfFiles fold files.tables files.sets bundle
-  pub another : IsFirstOfAnotherSide bundle.side claims number
+  pub another : IsFirstOfAnotherSide files.claims bundle.side number
 
 -- why nothing is searched: the line of the claims text that is the first to be no claim, then the tables and the sets, then the
--- first board of another side
+-- line of the first board of another side
 abbrev pub IsUnready : Bool → ClaimsFiles → verdict.Fault → Type 0
 IsUnready fold files refused =
     ((number : ℕ) × IsFirstNoClaim files.claims number × (refused ≡ fault.Q1 number))

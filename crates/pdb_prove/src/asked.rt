@@ -1,7 +1,7 @@
 //! Claims that are asked, from their text to the line of the last answer.
 
 ghost use Rattle.std.specs.Prelude.{◌≡◌, ◌+◌, ◌<◌, ◌≤◌, Bool, length, map, slice_index_or, IfNone, IfOk, IfSome, MatchResult};
-ghost use Rattle.std.specs.List.{All, AllByRecursion};
+ghost use Rattle.std.specs.List.{All};
 ghost use Rattle.puz_board.specs.Boards.{side_of};
 ghost use Rattle.set_sum.specs.Bundles.{ShownBundle};
 ghost use Rattle.puz_goal.specs.Turning.{moves_for};
@@ -12,14 +12,14 @@ ghost use Rattle.claim_text.specs.declared.claims.Claim.{Claim};
 ghost use Rattle.pdb_run.specs.Runs.{World};
 ghost use Rattle.pdb_verdict.specs.FileBundles.{IsReadBundle};
 ghost use Rattle.pdb_prove.specs.Answers.{told_of, words_of};
-ghost use Rattle.pdb_prove.specs.Prove.{AreReady, ClaimsFiles, IsFirstOfAnotherSide};
+ghost use Rattle.pdb_prove.specs.Prove.{AreReady, ClaimsFiles};
 ghost use Rattle.pdb_prove.specs.Steps.{IsAskedOver, IsCauseForClaims, IsFoundAt, IsPosedOver, IsSameAsked, IsTelling, IsToldTo, PrunesFor, claims_of, of_claims};
 
 use crate::answers::Finding;
 use byte_io::streams::WriteFault;
 use claim_text::{
-    Asks, Claim, ClaimsFault, Line, MOST_CLAIMS, bound_line, optimal_line, part_line, refused_line,
-    shorter_line,
+    Asks, Claim, ClaimsFault, Line, bound_line, first_of_another_side, optimal_line, part_line,
+    refused_line, shorter_line,
 };
 use move_strings::Automaton;
 use pdb_run::{AnswerLines, Io, Tally};
@@ -235,17 +235,16 @@ pub(crate) struct Ready<'b, 'c> {
 }
 
 impl<'b, 'c> Ready<'b, 'c> {
-    /// These claims and a bundle, where there is one, and of the side of their boards.
+    /// The claims of a text and a bundle, where there is one, and of the side of their boards.
     pub(crate) fn of(
-        alloc: Global,
         goal: Goal,
+        text: &[u8],
         claims: Vec<Claim<'c>>,
         budget: u64,
         bundle: Result<Bundle<'b>, Fault>,
     ) -> Result<Ready<'b, 'c>, Fault>
-        requires { length claims.items ≤ MOST_CLAIMS }
-        ensures ready { (fold : Bool) (files : ClaimsFiles)
-            → AreClaims files.claims (map claim_shown claims.entry.items)
+        requires { AreClaims text.now (map claim_shown claims.items) }
+        ensures ready { (fold : Bool) (files : ClaimsFiles) → files.claims ≡ text.now
             → IsReadBundle fold files.tables files.sets bundle.entry
             → MatchResult result
             (λ ready. AreReady fold files (claims_of ready.asked) ready.bundle)
@@ -257,30 +256,15 @@ impl<'b, 'c> Ready<'b, 'c> {
             (v : ShownBundle) (w : World) → IsToldTo v w w ready.asked) }
     {
         let bundle = bundle?;
-        match first_of_another_side(claims.as_slice(), &bundle) {
+        match first_of_another_side(text, claims.as_slice(), bundle.side()) {
             None => {
+                let alloc = *claims.allocator();
                 let asked = Asked::over(alloc, goal, claims, budget, &bundle)?;
                 Ok(Ready { asked, bundle })
             }
-            Some(number) => Err(Fault::Q2(number)),
+            Some(line) => Err(Fault::Q2(line)),
         }
     }
-}
-
-/// The number of the first claim whose board has another side than a bundle.
-fn first_of_another_side(claims: &[Claim<'_>], bundle: &Bundle<'_>) -> Option<u32>
-    requires { length claims.now ≤ MOST_CLAIMS }
-    ensures none { let shown = map claim_shown claims.now in
-        IfNone result (AllByRecursion (λ claim. side_of claim.board ≡ bundle.now.side) shown) }
-    ensures some { let shown = map claim_shown claims.now in
-        IfSome result (IsFirstOfAnotherSide bundle.now.side shown) }
-{
-    for (number, claim) in claims.iter().enumerate() {
-        if claim.board.side() != bundle.side() {
-            return Some(number as u32);
-        }
-    }
-    None
 }
 
 /// Why nothing is searched, where a text gives no claims.

@@ -1,8 +1,8 @@
 //! Where a line that is no claim goes wrong, told to people. No contract speaks of it.
 
 use crate::mistakes_behind::{bound_spot, moves_spot};
-use crate::words_of_lines::{is_separator, word_at};
-use claim_text::{ClaimsFault, MOST_CLAIMS};
+use crate::words_of_lines::word_at;
+use claim_text::{ClaimsFault, MOST_LINES, is_remark};
 use pdb_run::{Beside, Mistake, Spot};
 use puz_board::{Board, BoardFault};
 
@@ -26,7 +26,7 @@ const FILES: [&[u8]; 2] = [b"PDBT", b"PDBL"];
 pub(crate) fn beside_fault(text: &[u8], fault: ClaimsFault) -> Beside {
     match fault {
         ClaimsFault::Memory => Beside::Nothing,
-        ClaimsFault::Q1 { line } if line >= MOST_CLAIMS => {
+        ClaimsFault::Q1 { line } if line >= MOST_LINES => {
             Beside::Spot(spot(0, Mistake::ManyClaims))
         }
         ClaimsFault::Q1 { line } => {
@@ -74,10 +74,8 @@ fn spot_in(line: &[u8]) -> Option<Spot> {
 
 /// What is wrong with a line as a whole.
 fn whole_line_mistake(line: &[u8]) -> Option<Mistake> {
-    if line.iter().all(|byte| is_separator(*byte)) {
+    if is_remark(line) {
         Some(Mistake::EmptyLine)
-    } else if line.starts_with(b"#") {
-        Some(Mistake::Comment)
     } else if line.starts_with(b"\xef\xbb\xbf") {
         Some(Mistake::ByteOrderMark)
     } else if ANSWERS.iter().any(|front| line.starts_with(*front)) {

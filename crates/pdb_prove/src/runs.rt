@@ -146,8 +146,8 @@ fn answer_claims<'n, H: Threads + Wait + Sync, G: Gate + Sync, I: Io>(
     let files = TableFiles { given, kept, fold };
     let (digested, bundle) = over_tables(files, Some(text), sets.as_slice(), workers, identity);
     let ready = Ready::of(
-        workers.alloc,
         command.0.goal,
+        text,
         claims,
         budget_of(command.0),
         bundle,

@@ -2,7 +2,7 @@
 
 use crate::given::claims_of;
 use crate::same::same;
-use claim_text::{Asks, ClaimsFault, MOST_CLAIMS, read_claims};
+use claim_text::{Asks, ClaimsFault, MOST_LINES, read_claims};
 use move_strings::BoundPart;
 use puz_board::Board;
 use std::alloc::AllocGlobal;
@@ -33,7 +33,7 @@ fn claims_of_each_form_are_read(rt: HostRuntime) {
 #[test]
 fn a_text_may_have_1048576_claims(rt: HostRuntime) -> Result<(), Fail> {
     let mut text = Vec::new(rt.alloc());
-    for _ in 0..MOST_CLAIMS {
+    for _ in 0..MOST_LINES {
         text.extend_from_slice(b"0 1 2 3:9\n")?;
     }
     same(&rt, &claims_of(&rt, &text).len(), &1_048_576);

@@ -1,7 +1,7 @@
 use Rattle.std.proofs.Common.{◌≡◌, ◌∷◌, ◌++◌, None, Option, Some, ap, lit<, ◌∙◌}
 use Rattle.std.proofs.lemmas.Str.Pattern.{strip_prefix_char}
 use Rattle.std.specs.Prelude.{MatchOption}
-use Rattle.claim_text.specs.Lines.{asks_words, claim_words, numbers}
+use Rattle.claim_text.specs.Lines.{asks_words, claim_words}
 use Rattle.claim_text.specs.Shown.{asks_shown, claim_shown}
 use Rattle.claim_text.proofs.AnswerLemmas.{spaced_front}
 use Rattle.claim_text.proofs.answers.claim_line.Goals as goal

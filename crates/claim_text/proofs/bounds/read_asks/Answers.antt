@@ -1,4 +1,4 @@
-use Rattle.std.proofs.Common.{◌≤◌, arith}
+use Rattle.std.proofs.Common.{arith}
 use Rattle.claim_text.proofs.BoundLemmas.{no_bound, not_small}
 use Rattle.claim_text.proofs.ClaimLemmas.{IfNone-always}
 use Rattle.claim_text.proofs.bounds.read_asks.Goals as goal

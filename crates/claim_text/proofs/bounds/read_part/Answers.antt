@@ -1,7 +1,7 @@
-use Rattle.std.proofs.Common.{◌≡◌, ◌≤◌, ap, arith, sym, ◌∙◌, subst}
+use Rattle.std.proofs.Common.{arith, sym, ◌∙◌, subst}
 use Rattle.move_strings.specs.BoundParts.{IsPart}
 use Rattle.claim_text.proofs.BoundLemmas.{no_part, part_cut}
-use Rattle.claim_text.proofs.ClaimLemmas.{IfNone-always, IfNone-weaker}
+use Rattle.claim_text.proofs.ClaimLemmas.{IfNone-always}
 use Rattle.claim_text.proofs.DecimalLemmas.{one_decimal}
 use Rattle.claim_text.proofs.bounds.read_part.Goals as goal
 

@@ -1,6 +1,6 @@
 use Rattle.std.proofs.Common.{Err, ap, inl, map}
 use Rattle.claim_text.specs.Shown.{claim_shown}
-use Rattle.claim_text.specs.Texts.{lines_of}
+use Rattle.claim_text.specs.Texts.{claim_lines}
 use Rattle.claim_text.specs.declared.faults.ClaimsFault.TheVariants.{Q1}
 use Rattle.claim_text.proofs.ReadingLemmas.{all_few, are_claims, claims_there, no_fault, one_fault, one_reading}
 use Rattle.claim_text.proofs.texts.read_claims.Goals as goal
@@ -31,17 +31,17 @@ returns-in-Ok-list_claims-clause-exact c = λ line first.
 
 -- each claim that is listed has at most 1,000 letters in its moves text
 pub returns-in-Ok-list_claims-clause-few : goal.returns-in-Ok-list_claims-clause-few
-returns-in-Ok-list_claims-clause-few c = all_few claim_shown (lines_of c.args.text.now) c.in-Ok-list_claims.claims.items c.in-Ok-list_claims.ensures
+returns-in-Ok-list_claims-clause-few c = all_few claim_shown (claim_lines c.args.text.now) c.in-Ok-list_claims.claims.items c.in-Ok-list_claims.ensures
 
 -- where memory for the list is wanting, no line of the text is the first that is no claim
 pub returns-in-Err-list_claims-clause-exact : goal.returns-in-Err-list_claims-clause-exact
 returns-in-Err-list_claims-clause-exact c = λ line first.
-    let there = claims_there (lines_of c.args.text.now) c.in-Ok.ensures.claims in
+    let there = claims_there (claim_lines c.args.text.now) c.in-Ok.ensures.claims in
     absurd (no_fault c.args.text.now there.0 line (are_claims c.args.text.now c.in-Ok.count there.0 c.in-Ok.ensures.count c.in-Ok.ensures.some
     c.in-Ok.ensures.few there.1) first)
 
 -- where memory for the list is wanting, the text is one of claims
 pub returns-in-Err-list_claims-clause-memory : goal.returns-in-Err-list_claims-clause-memory
 returns-in-Err-list_claims-clause-memory c _ =
-    let there = claims_there (lines_of c.args.text.now) c.in-Ok.ensures.claims in
+    let there = claims_there (claim_lines c.args.text.now) c.in-Ok.ensures.claims in
     (there.0, are_claims c.args.text.now c.in-Ok.count there.0 c.in-Ok.ensures.count c.in-Ok.ensures.some c.in-Ok.ensures.few there.1)

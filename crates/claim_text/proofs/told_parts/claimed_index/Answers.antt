@@ -1,8 +1,8 @@
-use Rattle.std.proofs.Common.{◌≡◌, ◌≤◌, ◌<◌, ◌∙◌, ℕ, List, ap, arith, subst, sym, codes}
+use Rattle.std.proofs.Common.{◌≡◌, ◌∙◌, ℕ, List, ap, subst, sym, codes}
 use Rattle.move_strings.specs.BoundParts.{IsPart, ShownPart}
 use Rattle.claim_text.specs.Claims.{part}
 use Rattle.claim_text.specs.Lines.{refused, told_line}
-use Rattle.claim_text.specs.Parts.{part_at, part_claim}
+use Rattle.claim_text.specs.Parts.{part_at}
 use Rattle.claim_text.proofs.ClaimLemmas.{IfNone-always}
 use Rattle.claim_text.proofs.NumeralLemmas.{not_differ}
 use Rattle.claim_text.proofs.ToldLemmas.{found_index, part_of}

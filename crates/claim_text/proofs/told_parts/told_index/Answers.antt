@@ -1,4 +1,4 @@
-use Rattle.std.proofs.Common.{◌≡◌, ◌<◌, ◌≤◌, ℕ, List, ap, arith, drop, length, sym, ◌∙◌, subst}
+use Rattle.std.proofs.Common.{ℕ, List, ap, arith, drop, length, sym, ◌∙◌, subst}
 use Rattle.move_strings.specs.BoundParts.{IsPart, ShownPart}
 use Rattle.claim_text.specs.Lines.{part_bounded, told_line}
 use Rattle.claim_text.specs.Parts.{part_at}

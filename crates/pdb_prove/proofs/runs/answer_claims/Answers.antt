@@ -29,7 +29,7 @@ returns-in-Err-clause-ends g c = λ old are same.
     let over = c.over_tables-digested.ensures in
     let made = rw (same, ← over.found.2.1, c.as_slice-kept.ensures.value, c.given_up-given.ensures.all, c.as_slice.ensures.value) at over.found.1 in
     let digest = rw (c.as_slice-kept.ensures.value, c.given_up-given.ensures.all) at over.digested in
-    c.in-Err.ensures.begins files old are digest (c.of-ready.ensures.ready _ files c.requires.are made)
+    c.in-Err.ensures.begins files old are digest (c.of-ready.ensures.ready _ files refl made)
 
 -- where all is ready and the digests are written, the run has begun
 has_begun : (g : Over) (c : In-Ok g) {old : World} → HasRead (prove_inputs (prove_shown c.args.command.now.0.now)) old (g.I.Io.world c.args.io.now) (in_order (files_of c.args.files))
@@ -40,7 +40,7 @@ has_begun g c {old} are same =
     let over = c.over_tables-digested.ensures in
     let made = rw (same, ← over.found.2.1, c.as_slice-kept.ensures.value, c.given_up-given.ensures.all, c.as_slice.ensures.value) at over.found.1 in
     let digest = rw (c.as_slice-kept.ensures.value, c.given_up-given.ensures.all) at over.digested in
-    c.in-Ok.ensures.begins files old are digest (c.of-ready.ensures.ready _ files c.requires.are made)
+    c.in-Ok.ensures.begins files old are digest (c.of-ready.ensures.ready _ files refl made)
 
 -- its budget is that of the command
 budget_is : (g : Over) (c : In-Ok g) → c.in-Ok.ready.asked.budget ≡ budget_of (prove_shown c.args.command.now.0.now).budget
@@ -89,7 +89,7 @@ wanted g c =
     let over = c.over_tables-digested.ensures in
     let full = full_where c.args.files.fold _ _ c.in-Ok-answer_over_tables.ensures.goes_on c.in-Some.is in
     let made = rw (full, ← over.found.2.1, c.as_slice-kept.ensures.value, c.given_up-given.ensures.all, c.as_slice.ensures.value) at over.found.1 in
-    let ready = rw c.in-Ok.ensures.ready at (c.of-ready.ensures.ready _ (files_of c.args.files) c.requires.are made) in
+    let ready = rw c.in-Ok.ensures.ready at (c.of-ready.ensures.ready _ (files_of c.args.files) refl made) in
     (rw (c.given_up-given.ensures.full full) ready.is_bundle, rw c.in-Some.is at c.in-Ok-answer_over_tables.ensures.wanted)
 
 -- so the words that are made are those of the tables' files

@@ -2,6 +2,7 @@ use Rattle.std.proofs.Common.{◌≡◌, ◌∙◌, ◌<◌, ◌++◌, ◌∷◌
 use Rattle.pdb_run.specs.Answers.{all_bytes}
 use Rattle.pdb_prove.specs.Prove.{in_order}
 use Rattle.pdb_prove.specs.Steps.{files_of}
+use Rattle.pdb_prove.proofs.ReadyLemmas.{claims_cause}
 use Rattle.pdb_prove.proofs.runs.run_prove.Given.{Over}
 use Rattle.pdb_prove.proofs.runs.run_prove.Goals.{After-with_bytes-files}
 use Rattle.pdb_prove.proofs.runs.run_prove.Goals as goal
@@ -30,4 +31,5 @@ returns-in-Ok-read_claims-clause-ends g c =
 pub returns-clause-ends : goal.returns-clause-ends
 returns-clause-ends g c =
     let are = rw (order g (goal.at.returns-clause-ends g c).After-with_bytes-files) at c.in-Ok.ensures.read in
-    rw c.telling.ensures.status (c.tell_fault.ensures.ends (files_of c.with_bytes-files.result) _ are (search rules) (search rules))
+    rw c.telling.ensures.status (c.tell_fault.ensures.ends (files_of c.with_bytes-files.result) _ are (search rules)
+    (rw c.of_claims.ensures (claims_cause _ _ _ c.in-Err-read_claims.fault c.in-Err-read_claims.ensures.fault c.in-Err-read_claims.ensures.memory)))
