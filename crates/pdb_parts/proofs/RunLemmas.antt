@@ -12,7 +12,7 @@ use Rattle.pdb_run.specs.Commands.{Reply}
 use Rattle.pdb_run.specs.Inputs.{AreRead}
 use Rattle.pdb_run.specs.Io.{HasRead, IsSaid}
 use Rattle.pdb_run.specs.Runs.{Ends, HasCause, LeavesCalls, LeavesFailure, LeavesFiles, LeavesReader, Outcome, Says, SparesFiles, World, made_wrong}
-use Rattle.pdb_run.specs.Runs.{no_memory, replied, spared, status_of, status_of_reply, text_of, unkept, unlisted, unread, unwritable}
+use Rattle.pdb_run.specs.Runs.{no_memory, replied, spared, status_of, status_of_reply, text_of, unkept, unlisted, unread, unseen, unwritable}
 use Rattle.pdb_run.specs.Writing.{memory_line}
 use Rattle.pdb_run.specs.declared.statuses.Status.{Status}
 use Rattle.pdb_run.specs.declared.statuses.Status.TheVariants.{Fault, NoMemory, Refused, Yes}
@@ -44,7 +44,7 @@ none_kept : (name : Bytes) → ¬ (None ≡ Some name)
 none_kept name is = let clash : None ≡ Some name = is in cc
 
 module _ (arguments : PartsArguments) (count : AreParts arguments.count) {old new : World} {status : Status} where
-  read_by : (outcome : Outcome) → HasCause (reading_plan arguments) old new.failed outcome → SparesFiles (reading_plan arguments) old.files outcome
+  read_by : (outcome : Outcome) → HasCause (reading_plan arguments) old new.failed outcome → SparesFiles (reading_plan arguments) old outcome
       → LeavesFiles (reading_plan arguments) old.files new.files outcome → LeavesCalls (reading_plan arguments) old.calls new.calls outcome
       → LeavesFailure (reading_plan arguments) old.failed new.failed outcome → LeavesReader (reading_plan arguments) old.reader new.reader outcome
       → Says (text_of outcome) (status_of outcome) old.written new.written status → Ends (parts_plan arguments) old new status
@@ -88,6 +88,7 @@ module _ (arguments : PartsArguments) (count : AreParts arguments.count) {old ne
     said = said;
   }
   read_by (spared name) cause spares files calls failure reader said = absurd (none_kept name cause.under)
+  read_by (unseen name) cause spares files calls failure reader said = absurd (none_kept name cause.under)
   read_by (unwritable name why) cause spares files calls failure reader said = absurd (none_kept name cause.under)
   read_by (unkept name why) cause spares files calls failure reader said = absurd (none_kept name cause.under)
   read_by no_memory cause spares files calls failure reader said = absurd cause.2
