@@ -180,6 +180,7 @@ fault write F1|F1: this run reads that file, so it is not replaced: `--replace` 
 fault write ./F1|./F1: this run reads that file, so it is not replaced: `--replace` allows that|solve board one_set ./F1 F12 F3 F1 F123
 fault write F123|F123: a table is there, or what can't be read, so no log takes its place: `--replace` allows that|solve board one_set F123 F12
 fault write leaf|leaf: a log is there, or what can't be read, so no table takes its place: `--replace` allows that|make-table 2 1 leaf
+fault write leaf|leaf: a log of another board is there, so it is not replaced: `--replace` allows that|solve other_board one_set leaf F12
 fault write F123|F123: a table of another side or mask is there, so it is not replaced: `--replace` allows that|make-table 2 1 F123
 fault write board|board: what is there is neither a table nor a log, or can't be read, so it is not replaced: `--replace` allows that|make-table 2 1 board
 fault write solved|solved: what is there is neither a table nor a log, or can't be read, so it is not replaced: `--replace` allows that|solve board one_set solved F12
@@ -407,6 +408,7 @@ for mask in 30 480 7680; do
 done
 check 'three tables of four tiles have 4 MiB' [ "$(cat side_5_* | wc -c)" -ge 4194304 ]
 echo '1 2 3 4 9 5 6 7 8 14 10 11 12 13 0 15 16 17 18 19 20 21 22 23 24' >six_away
+rm made
 for words in '' --fold '--workers 4'; do
     says 'optimal 6' "solve six_away three made side_5_30 side_5_480 side_5_7680 $words"
     says "optimal 6 of $(cat six_away) ; UULLLL" "prove six_away three side_5_30 side_5_480 side_5_7680 $words"
@@ -421,7 +423,18 @@ sys.stdout.buffer.write(b"PDBL\1\2" + (130_000).to_bytes(4, "big") + 130_000 * l
 END
 check 'the log has more than 2^26 bytes' [ "$(stat -c %s log_of_67_megabytes)" -gt 67108864 ]
 says 'bound 255' 'bound unsolvable one_set log_of_67_megabytes F123 --workers 4'
+# It is one of this board, so it doesn't keep the search from it, where there is memory to see that.
+says 'refused K2' 'solve unsolvable one_set log_of_67_megabytes F123' \
+    'unsolvable: the board has no solution, or none of fewer than 255 moves; with the blank last it has one: --goal last'
+status=0
+(ulimit -v 65536 && exec "$bare" solve unsolvable one_set log_of_67_megabytes F123) >"$work/output" 2>"$work/errors" || status=$?
+check 'want of memory to look at a log' told_whole 'no memory' 'the system refused memory, so there is no verdict'
 rm log_of_67_megabytes
+
+# More bytes than a log may have are none.
+printf 'PDBL\1\2\0\0\0\1\3\2\1\0' >made && truncate -s 1073741825 made
+says 'fault write made' 'solve board one_set made F12' \
+    "made: a log of another board is there, so it is not replaced: \`--replace\` allows that"
 
 # A file of more than 2^32 bytes is replaced.
 rm made && truncate -s 4294967297 made

@@ -375,7 +375,7 @@ def side_4(program, checks):
     for board in boards:
         program.keep("board", " ".join(map(str, board)).encode())
         words = ["board", "sets_4", "log", *tables, "--workers", "4"]
-        _, written = program.run("solve", *words, "--budget", "20000000")
+        _, written = program.run("solve", *words, "--budget", "20000000", "--replace")
         letters = re.search(rb"^moves ?([UDLR]*)$", written, re.MULTILINE)
         checks.that(f"solve {board}", letters, written)
         shortest.append(letters[1].decode() if letters else "")

@@ -1392,6 +1392,7 @@ check 'its log is that of the turned board' cmp -s by_parity made
 either_way 0 'bound 6 with the blank last' F12 made : bound --goal last board_last one_set made F12
 either_way 0 'optimal 6' F12 made : optimal six_moves one_set made F12
 echo '1 2 3 0' >home_last
+rm made
 run solve --goal last home_last one_set made F123
 check 'solve of home with the blank last' [ "$(tail -n 2 "$work/output")" = $'moves with the blank last\noptimal 0 with the blank last' ]
 solved board 6 pair 'F12 F3' --fold
@@ -1460,9 +1461,31 @@ if [ "$(id -u)" != 0 ]; then
     chmod u+r a_log unread && rm unread
 fi
 expect 'an input that is not there comes before a file that is spared' 2 'fault read none' : solve none one_set F12 F123
-# A table of the same pattern is replaced, and so is any log; another table isn't, nor what only begins a little as these do.
-run solve next_board one_set a_log F123
-check 'a log is replaced by a log' [ "$status.$(tail -n 1 "$work/output")" = '0.optimal 1' ]
+# A table of the same pattern is replaced, and so is a log of the same board, turned for the goal; another table or log isn't, nor what
+# only begins a little as these do.
+why='a log of another board is there, so it is not replaced'
+spares a_log "$why" solve next_board one_set a_log F123
+spares a_log "$why" solve next_board one_set a_log F123 --budget 1 --workers 2
+spares a_log "$why" solve board_last one_set a_log F12
+spares a_log "$why" solve --goal last board one_set a_log F12
+expect 'a refused board text comes before a log of another board' 1 "sha256 ${digest%% *}" 'refused B5 at number 3' : \
+    solve no_board one_set a_log F12
+for words in 'board one_set a_log F12' '--goal last board_last one_set a_log F12'; do
+    cp branches a_log
+    # shellcheck disable=SC2086
+    run solve $words
+    check "solve $words replaces a log of its board" cmp -s a_log by_parity
+done
+run solve next_board one_set a_log F123 --replace
+check 'a log is replaced by a log, as it is told to' [ "$status.$(tail -n 1 "$work/output")" = '0.optimal 1' ]
+# Of two lemmas the last one tells the board.
+of_next='01 00 02 03 01 00 00 00 01 01'
+of_board='03 02 01 00 06 00 00 00 01 01'
+bytes "50 44 42 4C 02 02 00 00 00 02 $of_board $of_next" >a_file
+spares a_file "$why" solve board one_set a_file F12
+bytes "50 44 42 4C 01 02 00 00 00 02 $of_next $of_board" >a_file
+run solve board one_set a_file F12
+check 'a log whose last board is the same is replaced' cmp -s a_file by_parity
 why='a table of another side or mask is there, so it is not replaced'
 for file in F123 F1 F24 F12_with_FE; do
     cp "$file" a_file
@@ -1489,10 +1512,10 @@ for front in PDBL 'PDBL\x00' 'PDBL\x03' PDB '' PDBT 'PDBT\x00' 'PDBT\x02' 'a tex
     run make-table 2 6 a_file --replace
     check "a file of '$front' is replaced by a table, as it is told to" cmp -s a_file F12
 done
-for front in 'PDBL\x01' 'PDBL\x02'; do
+why='a log of another board is there, so it is not replaced'
+for front in 'PDBL\x01' 'PDBL\x02' "$(head -c 29 branches | od -An -v -tx1 | tr -d '\n' | sed 's/ /\\x/g')"; do
     printf %b "$front" >a_file
-    run solve board one_set a_file F12
-    check "a file of '$front' is replaced by a log" cmp -s a_file by_parity
+    spares a_file "$why" solve board one_set a_file F12
 done
 # What its owner may not write stays, whatever the words say, and whoever runs them.
 why="it is read-only to its owner, so it is not replaced: \`chmod u+w\` allows that"

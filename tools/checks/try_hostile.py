@@ -41,6 +41,7 @@ from plain_answers import (
     Ended,
     Run,
     answer,
+    side_of,
     table_of,
 )
 
@@ -330,14 +331,14 @@ def log_checked(draw, number):
     return Run(command, ("text", "sets", "log", *named(tables)), files, workers=workers(draw), fold=fold)
 
 
-def kept_under(draw, files):
-    """A name to keep under, and the files with what may stand there already, or under the name of a temporary file."""
+def kept_under(draw, files, own=b"PDBL\1 is here"):
+    """A name to keep under, and the files with what may stand there already, as this, or under the name of a temporary file."""
     unkept = ["no_folder/made", "no\x1bfolder/a", "taken/made", "/dev/full", ".", "", "n" * 256]
     out = draw.choice(["made"] * 8 + ["taken"] * 3 + ["two words", "a\nb"] + unkept)
     if files and draw.random() < 0.1:
         out = draw.choice(list(files))
     table = b"PDBT\1\2\1\0\0\0\0\2"
-    taken = draw.choice([b"what stood here", b"", table, b"PDBT\1 is here", b"PDBL\1 is here", b"PDBL\2", b"PDBL\2", b"PDBT\2"])
+    taken = draw.choice([b"what stood here", b"", table, b"PDBT\1 is here", b"PDBL\1 is here", own, own, b"PDBL\2", b"PDBT\2"])
     return out, {**files, "taken": taken, "made.unkept": b"a file of a user"}
 
 
@@ -350,6 +351,7 @@ def solved(draw, number):
     """A run of `solve`, most of whose inputs are good."""
     board, budget, sets, tables = good_inputs.search(draw)
     text = good_inputs.board_text(draw, board)
+    own = b"PDBL\2" + bytes([side_of(board), 0, 0, 0, 1, *board, 0, 0, 0, 0, 0])
     which = draw.choice(["nothing"] * 6 + ["text", "sets", "table"])
     if which == "text":
         # Its board may be far from the goal board.
@@ -364,7 +366,7 @@ def solved(draw, number):
         tables = [large_table(number)]
     if draw.random() < 0.02:
         budget = draw.choice([0, 10**12 + 1])
-    out, files = kept_under(draw, {"text": text, "sets": sets, **named(tables)})
+    out, files = kept_under(draw, {"text": text, "sets": sets, **named(tables)}, own)
     names, fold = ("text", "sets", *named(tables)), draw.random() < 0.3
     budget = None if budget == USUAL_BUDGET else budget
     return Run("solve", names, files, out, budget=budget, workers=workers(draw), fold=fold)

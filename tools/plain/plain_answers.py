@@ -930,15 +930,28 @@ def parts_joined(run, inputs):
     return b"".join(map(digest_line, answers)) + joined.encode(), 0
 
 
+def is_of_another_board(log, text):
+    """Whether the text is that of a board, and the log is none of it."""
+    try:
+        board = read_board(text)
+    except Refused:
+        return False
+    try:
+        return read_lemmas(log)[-1].board != board
+    except Refused:
+        return True
+
+
 def is_spared(run):
-    """Whether OUT is an input of the run, or holds something that begins neither as a log does, of `solve`, nor as a table of this
-    side and mask."""
+    """Whether OUT is an input of the run, or holds something that is neither a log of the board, of `solve`, nor begins as a table of
+    this side and mask."""
+    if run.out in run.names or run.out not in run.files:
+        return run.out in run.names
+    file = run.files[run.out]
     if run.command == "solve":
-        fronts = (b"PDBL\1", b"PDBL\2")
-    else:
-        side, mask = run.numbers
-        fronts = (b"PDBT\1" + bytes([side, mask.bit_count(), 0]) + mask.to_bytes(4, "big"),)
-    return run.out in run.names or run.out in run.files and not run.files[run.out].startswith(fronts)
+        return not file.startswith((b"PDBL\1", b"PDBL\2")) or is_of_another_board(file, run.files[run.names[0]])
+    side, mask = run.numbers
+    return not file.startswith(b"PDBT\1" + bytes([side, mask.bit_count(), 0]) + mask.to_bytes(4, "big"))
 
 
 def can_be_kept(name):

@@ -1,6 +1,6 @@
 //! A shelf over the files of the system.
 
-ghost use Rattle.std.specs.Prelude.{◌≡◌, None, false};
+ghost use Rattle.std.specs.Prelude.{◌≡◌, ◌≤◌, IfOk, None, false, length};
 
 use crate::shelf::{KeepFault, Shelf};
 use crate::streams::{ReadFault, WriteFault, put_bytes, read_said};
@@ -51,13 +51,7 @@ impl<R: Files> Shelf for DiskShelf<'_, R> {
     ghost calls = { λ _. None };
 
     fn load(&mut self, alloc: Global, name: &str, limit: u64) -> Result<Vec<u8>, ReadFault> {
-        let result = match File::open(self.files, name) {
-            Ok(mut file) => {
-                let size = said_size(&file);
-                read_said(alloc, &mut file, limit, size)
-            }
-            Err(_) => Err(ReadFault::F1),
-        };
+        let result = read_file(alloc, self.files, name, limit);
         if matches!(&result, Err(ReadFault::F1)) {
             self.has_failed = true;
         }
@@ -70,6 +64,13 @@ impl<R: Files> Shelf for DiskShelf<'_, R> {
 
     fn begins_with(&self, name: &str, front: &[u8]) -> bool {
         begins_with(self.files, name, front)
+    }
+
+    fn peek(&self, alloc: Global, name: &str, limit: u64) -> Result<Option<Vec<u8>>, ReadFault> {
+        if !is_plain(self.files, name) {
+            return Ok(None);
+        }
+        Ok(Some(read_file(alloc, self.files, name, limit)?))
     }
 
     fn is_read_only(&self, name: &str) -> bool {
@@ -100,6 +101,24 @@ impl<R: Files> Shelf for DiskShelf<'_, R> {
     }
 }
 
+/// The bytes of the file under a name, which are at most so many.
+fn read_file<R: Files>(
+    alloc: Global,
+    files: &R,
+    name: &str,
+    limit: u64,
+) -> Result<Vec<u8>, ReadFault>
+    ensures { IfOk result (λ bytes. length bytes.items ≤ limit) }
+{
+    match File::open(files, name) {
+        Ok(mut file) => {
+            let size = said_size(&file);
+            read_said(alloc, &mut file, limit, size)
+        }
+        Err(_) => Err(ReadFault::F1),
+    }
+}
+
 /// How many bytes the system says that a file has; 0 where it says nothing, or where it is no plain file, as a folder or
 /// a pipe.
 fn said_size<F: OpenFile>(file: &F) -> u64 {
@@ -127,9 +146,8 @@ const MOST_FRONT: usize = 16;
 
 /// Whether the plain file under a name begins so. One that can't be looked at doesn't, but each begins with no bytes.
 fn begins_with<R: Files>(files: &R, name: &str, front: &[u8]) -> bool {
-    match fs::symlink_metadata(files, name) {
-        Ok(data) if data.is_file() => {}
-        _ => return false,
+    if !is_plain(files, name) {
+        return false;
     }
     if front.is_empty() {
         return true;
@@ -143,6 +161,14 @@ fn begins_with<R: Files>(files: &R, name: &str, front: &[u8]) -> bool {
         Err(_) => false,
     };
     is_read && bytes.starts_with(front)
+}
+
+/// Whether a plain file stands under a name.
+fn is_plain<R: Files>(files: &R, name: &str) -> bool {
+    match fs::symlink_metadata(files, name) {
+        Ok(data) => data.is_file(),
+        Err(_) => false,
+    }
 }
 
 /// Whether the owner of a file may write it.

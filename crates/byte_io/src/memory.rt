@@ -98,6 +98,14 @@ impl Shelf for MemShelf {
         }
     }
 
+    fn peek(&self, alloc: Global, name: &str, limit: u64) -> Result<Option<Vec<u8>>, ReadFault> {
+        match self.files.get(name) {
+            Some(bytes) if limit < bytes.len() as u64 => Err(ReadFault::F2),
+            Some(bytes) => Ok(Some(Vec::from_slice(alloc, bytes.as_slice())?)),
+            None => Ok(None),
+        }
+    }
+
     fn is_read_only(&self, _name: &str) -> bool {
         false
     }

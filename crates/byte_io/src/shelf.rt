@@ -1,6 +1,6 @@
 //! Named bytes.
 
-ghost use Rattle.std.specs.Prelude.{◌≡◌, ◌<◌, ◌≤◌, List, Option, Bool, Some, false, true, length, IfOk, OnOk, OnErr, IfSome, IsErrOf, IsSomeAnd};
+ghost use Rattle.std.specs.Prelude.{◌≡◌, ◌<◌, ◌≤◌, List, Option, Bool, Some, false, true, length, option_map, IfOk, OnOk, OnErr, IfSome, IsErrOf, IsNone, IsSome, IsSomeAnd};
 ghost use Rattle.std.specs.Str.{bytes_eq};
 ghost use Rattle.byte_io.specs.Shelf.{Call, Files, KeepsOthers, begins_with, fault_of, keeps, loads, told_then, told_with, tries};
 
@@ -60,6 +60,17 @@ pub trait Shelf {
     /// with none.
     fn begins_with(&self, name: &str, front: &[u8]) -> bool
         ensures { IfSome (held self.now) (λ told. result ≡ begins_with told name.now front.now) };
+
+    /// The bytes under a name, which are at most so many, where there are some. Only a shelf that doesn't tell its bytes may fail to
+    /// look at them.
+    fn peek(&self, alloc: Global, name: &str, limit: u64) -> Result<Option<Vec<u8>>, ReadFault>
+        ensures found { IfOk result (λ found. IfSome (held self.now)
+            (λ told. option_map (λ bytes. bytes.items) found ≡ told name.now)) }
+        ensures over { IsErrOf result ReadFault.F2 → IfSome (held self.now)
+            (λ told. IsSomeAnd (told name.now) (λ bytes. limit < length bytes)) }
+        ensures failed { IsErrOf result ReadFault.F1 → IsNone (held self.now) }
+        ensures memory { IsErrOf result ReadFault.Memory
+            → IfSome (held self.now) (λ told. IsSome (told name.now)) };
 
     /// Whether the owner of the file under a name may not write it. Only a shelf that doesn't tell its bytes says so.
     fn is_read_only(&self, name: &str) -> bool

@@ -1,4 +1,5 @@
 pub mod KeptLemmas
 pub mod LetterLemmas
+mod LogLemmas
 mod MakerLemmas
 mod ThresholdLemmas

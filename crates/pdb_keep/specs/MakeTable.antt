@@ -74,6 +74,6 @@ pub record TellsBuild (side mask : ℕ) (reply : Reply) : Type 0 where
 -- makes a table once the side and the mask are a pattern; for any number of workers
 abbrev pub make_table_plan : MakeTableArguments → Plan
 make_table_plan arguments =
-    plan_under (Some arguments.out) (replaced_unless arguments.replace (table_front arguments.side arguments.mask ∷ [])) []
+    plan_under (Some arguments.out) (replaced_unless arguments.replace (table_front arguments.side arguments.mask ∷ [])) (λ inputs file. ⊥) []
     (λ inputs. TellsBuild arguments.side arguments.mask) (λ inputs. ArePattern arguments.side arguments.mask)
     (λ inputs. ArePattern arguments.side arguments.mask)

@@ -27,7 +27,7 @@ use Rattle.pdb_verdict.specs.Replay.{puzzle_of}
 use Rattle.pdb_verdict.specs.declared.verdicts.Fault.{Fault}
 use Rattle.pdb_verdict.specs.declared.verdicts.Fault.TheVariants as fault
 use Rattle.pdb_keep.specs.GivenUp.{IsSpent, IsTooLong}
-use Rattle.pdb_keep.specs.Spared.{log_fronts, replaced_unless}
+use Rattle.pdb_keep.specs.Spared.{IsOfOtherSearch, log_fronts, replaced_unless}
 
 -- ---- before a log is made
 
@@ -159,8 +159,8 @@ abbrev pub SolveMakes : Goal → Bool → List Bytes → Type 0
 SolveMakes goal fold inputs =
     (text : Bytes) × (sets : Bytes) × (tables : List Bytes) × (inputs ≡ text ∷ sets ∷ tables) × IsSearchable goal fold text sets tables
 
--- it spares its inputs and all but logs, unless it is asked to replace any file; for any number of workers
+-- it spares its inputs and all but logs of its board, unless it is asked to replace any file; for any number of workers
 abbrev pub solve_plan : SolveArguments → Plan
 solve_plan arguments =
-    plan_under (Some arguments.out) (replaced_unless arguments.replace log_fronts) (solve_inputs arguments)
-    (IsSolveReply arguments.goal arguments.fold arguments.budget) SolveTakesMemory (SolveMakes arguments.goal arguments.fold)
+    plan_under (Some arguments.out) (replaced_unless arguments.replace log_fronts) (IsOfOtherSearch arguments.replace arguments.goal)
+    (solve_inputs arguments) (IsSolveReply arguments.goal arguments.fold arguments.budget) SolveTakesMemory (SolveMakes arguments.goal arguments.fold)

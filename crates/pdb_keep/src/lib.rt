@@ -5,6 +5,7 @@
 mod laws;
 mod made;
 mod make_table;
+mod other_boards;
 mod search_inputs;
 mod searches_alone;
 mod shortest;

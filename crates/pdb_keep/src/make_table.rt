@@ -16,6 +16,7 @@ ghost use Rattle.pdb_verdict.specs.Verdicts.{IsAnswerTo};
 ghost use Rattle.pdb_keep.specs.MakeTable.{ArePattern, IsBuilt, TellsBuild, make_table_plan};
 ghost use Rattle.pdb_keep.specs.Steps.{IsCauseForBuild};
 
+use crate::other_boards::Nothing;
 use crate::spared::{replaced_unless, table_front};
 use pat_place::Pattern;
 use pdb_request::MakeTable;
@@ -65,7 +66,7 @@ pub fn run_make_table<'n, H: Threads + Wait + Sync, G: Gate + Sync, I: Io>(
         name: asked.out,
         replaces: replaced_unless(asked.replace, &fronts),
     };
-    match read_inputs_and_try(workers.alloc, &command, keeping, io) {
+    match read_inputs_and_try(workers.alloc, &command, keeping, &Nothing, io) {
         Ok(_inputs) => {
             let answered = answer_make_table(asked.side, asked.mask, workers);
             keep_and_conclude(workers.alloc, &command, &answered, asked.out, io)

@@ -19,6 +19,7 @@ ghost use Rattle.pdb_keep.specs.Solve.{IsSearchable, TellsSearch, letters_of, re
 ghost use Rattle.pdb_keep.specs.Steps.{CameTo, HasItsMoves, IsGivenUp, IsSearchAnswer};
 
 use crate::made::Made;
+use crate::other_boards::OtherBoards;
 use crate::search_inputs::{Solving, with_bytes};
 use crate::searches_alone::SearchesAlone;
 use crate::shortest::find_shortest;
@@ -45,8 +46,8 @@ use work_run::{Gate, Workers};
 const MANY_BOARDS: u64 = 1 << 28;
 
 /// A whole run of `solve`, whoever checks the tables and the log: at most its budget of boards is expanded, and the log is kept
-/// once it and the moves are found to prove an optimum. That something can be kept there, and nothing but a log is replaced
-/// unasked, is tried before anything is checked.
+/// once it and the moves are found to prove an optimum. That something can be kept there, and nothing but a log of the
+/// board is replaced unasked, is tried before anything is checked.
 #[inline(never)] // so that the stack has the values of one command alone
 pub fn run_solve<'n, H: Threads + Wait + Sync, G: Gate + Sync, I: Io>(
     search: &Solve<'n, &'n str>,
@@ -63,7 +64,11 @@ pub fn run_solve<'n, H: Threads + Wait + Sync, G: Gate + Sync, I: Io>(
         name: search.out,
         replaces: replaced_by_log(search.replace),
     };
-    let mut read = match read_inputs_and_try(workers.alloc, &command, keeping, io) {
+    let others = OtherBoards {
+        goal: search.goal,
+        replace: search.replace,
+    };
+    let mut read = match read_inputs_and_try(workers.alloc, &command, keeping, &others, io) {
         Ok(inputs) => with_bytes(search, inputs),
         Err(ended) => return ended,
     };

@@ -27,7 +27,7 @@ use Rattle.pdb_request.specs.Asked.{Asked, PartsArguments, ProveArguments, bound
 use Rattle.pdb_run.specs.Commands.{Reply}
 use Rattle.pdb_run.specs.Inputs.{Failures}
 use Rattle.pdb_run.specs.Runs.{HasCause, IsRight, Outcome, World, made_wrong, no_memory, replied, spared, status_of, status_of_reply, text_of, unkept}
-use Rattle.pdb_run.specs.Runs.{unkept_status, unkept_text, unlisted, unread, unwritable}
+use Rattle.pdb_run.specs.Runs.{unkept_status, unkept_text, unlisted, unread, unseen, unwritable}
 use Rattle.pdb_run.specs.Writing.{digests_of, reply_text}
 use Rattle.pdb_run.specs.declared.statuses.Status.{Status}
 use Rattle.pdb_run.specs.declared.statuses.Status.TheVariants.{Yes}
@@ -345,6 +345,7 @@ outcome_answer asked old failed (unread wanted read.F1) once cause = else_answer
 outcome_answer asked old failed (unread wanted read.F2) once cause = else_answer _ _ (named (codes "size ") wanted.name refl)
 outcome_answer asked old failed (unread wanted read.Memory) once cause = else_answer _ _ memory
 outcome_answer asked old failed (spared name) once cause = unkept_answer name keep.F3
+outcome_answer asked old failed (unseen name) once cause = else_answer _ _ memory
 outcome_answer asked old failed (unwritable name why) once cause = unkept_answer name why
 outcome_answer asked old failed (unkept name why) once cause = unkept_answer name why
 outcome_answer asked old failed unlisted once cause = else_answer _ _ memory

@@ -21,7 +21,7 @@ use Rattle.byte_io.specs.declared.streams.ReadFault.TheVariants as read
 use Rattle.pdb_request.specs.Asked.{ProveArguments, prove}
 use Rattle.pdb_run.specs.Commands.{Reply}
 use Rattle.pdb_run.specs.Inputs.{Failures}
-use Rattle.pdb_run.specs.Runs.{HasCause, IsAnswered, Says, World, made_wrong, no_memory, replied, spared, text_of, unkept, unlisted, unread, unwritable}
+use Rattle.pdb_run.specs.Runs.{HasCause, IsAnswered, Says, World, made_wrong, no_memory, replied, spared, text_of, unkept, unlisted, unread, unseen, unwritable}
 use Rattle.pdb_run.specs.Runs as runs
 use Rattle.pdb_run.specs.Writing.{digests_of, reply_text}
 use Rattle.pdb_run.specs.declared.statuses.Status.{Status}
@@ -225,6 +225,7 @@ outcome_true arguments old failed (unread wanted read.F1) cause = alone argument
 outcome_true arguments old failed (unread wanted read.F2) cause = alone arguments.goal _ (named (codes "size ") wanted.name refl)
 outcome_true arguments old failed (unread wanted read.Memory) cause = alone arguments.goal _ memory
 outcome_true arguments old failed (spared name) cause = let clash : None ≡ Some name = cause.under in cc
+outcome_true arguments old failed (unseen name) cause = let clash : None ≡ Some name = cause.under in cc
 outcome_true arguments old failed (unwritable name why) cause = let clash : None ≡ Some name = cause.under in cc
 outcome_true arguments old failed (unkept name why) cause = let clash : None ≡ Some name = cause.under in cc
 outcome_true arguments old failed unlisted cause = alone arguments.goal _ memory

@@ -30,6 +30,10 @@ pub(crate) const OUT_IS_TABLE: &str =
 pub(crate) const OUT_IS_LOG: &str =
     "a log is there, or what can't be read, so no table takes its place: `--replace` allows that";
 
+/// What is said where a log would take the place of one of another board.
+pub(crate) const OUT_IS_ANOTHER_LOG: &str =
+    "a log of another board is there, so it is not replaced: `--replace` allows that";
+
 /// What is said where a table would take the place of another one.
 pub(crate) const OUT_IS_ANOTHER_TABLE: &str =
     "a table of another side or mask is there, so it is not replaced: `--replace` allows that";

@@ -17,8 +17,9 @@ named : (one other : Bytes) → Some one ≡ Some other → one ≡ other
 named one other same = cc
 
 -- the file that a plan keeps has one name: what may be replaced under it is free
-pub named_alone : (plan : Plan) (files : Option Files) {name : Bytes} → plan.keeps_under ≡ Some name → MayReplace plan files name → IsFree plan files
-named_alone plan files {name} some free = λ other under. subst (MayReplace plan files) (named name other (sym some ∙ under)) free
+pub named_alone : (plan : Plan) (files : Option Files) (inputs : List Bytes) {name : Bytes} → plan.keeps_under ≡ Some name
+    → MayReplace plan files inputs name → IsFree plan files inputs
+named_alone plan files inputs {name} some free = λ other under. subst (MayReplace plan files inputs) (named name other (sym some ∙ under)) free
 
 module _ {plan : Plan} {old mid : World} {inputs : List Bytes} where
   -- what keeps nothing has begun once its inputs are read
@@ -38,7 +39,7 @@ module _ {plan : Plan} {old mid : World} {inputs : List Bytes} where
       → HasReadAndTried plan name old mid inputs → HasBegun plan old mid inputs
   begun_trying some is = record {
     read = is.are.read;
-    free = named_alone plan old.files some is.free;
+    free = named_alone plan old.files inputs some is.free;
     behind = rw is.tried.reader is.are.behind;
     calls = rw (some, ← is.are.calls) is.tried.calls;
     files = is.tried.files ∙ is.are.files;
@@ -49,7 +50,7 @@ module _ {plan : Plan} {old mid : World} {inputs : List Bytes} where
 module _ {plan : Plan} {old mid new : World} {status : Status} where
   -- an outcome is said, for which there is cause, and which has left files, calls, failures and reader so
   pub ends_so : (outcome : Outcome) → IsSaid (text_of outcome) (status_of outcome) mid new status
-      → HasCause plan old mid.failed outcome → SparesFiles plan old.files outcome → LeavesFiles plan old.files mid.files outcome
+      → HasCause plan old mid.failed outcome → SparesFiles plan old outcome → LeavesFiles plan old.files mid.files outcome
       → LeavesCalls plan old.calls mid.calls outcome → LeavesFailure plan old.failed mid.failed outcome
       → LeavesReader plan old.reader mid.reader outcome → mid.written ≡ old.written
       → Ends plan old new status
@@ -68,7 +69,7 @@ module _ {plan : Plan} {old mid new : World} {status : Status} where
   wanting : {inputs : List Bytes} → HasBegun plan old mid inputs → plan.TakesMemory inputs
       → IsSaid (text_of no_memory) (status_of no_memory) mid new status → Ends plan old new status
   wanting are takes said =
-      ends_so no_memory said (_, are.read, takes) are.free are.files are.calls are.failed are.behind are.written
+      ends_so no_memory said (_, are.read, takes) (_, are.read, are.free) are.files are.calls are.failed are.behind are.written
 
   -- so it may be where nothing is kept
   pub ends_wanting : {inputs : List Bytes} → plan.keeps_under ≡ None → HasRead plan.inputs old mid inputs
@@ -88,7 +89,7 @@ module _ {plan : Plan} {old mid new : World} {status : Status} where
       → IsSaid (text_of made_wrong) (status_of made_wrong) mid new status → Ends plan old new status
   trial_wrong some is makes said =
       let are = begun_trying {plan = plan} some is in
-      ends_so made_wrong said (_, are.read, makes) are.free are.files are.calls are.failed are.behind are.written
+      ends_so made_wrong said (_, are.read, makes) (_, are.read, are.free) are.files are.calls are.failed are.behind are.written
 
   -- an answer is said, and what it keeps was kept
   pub ends_answered : {read : World} {inputs : List Bytes} {answer : CommandAnswer} {reply : Reply}

@@ -1,5 +1,5 @@
 -- What inputs give; shelf and reader may tell their bytes or not.
-use Rattle.std.specs.Prelude.{◌≡◌, ⊤, ℕ, ◌<◌, ◌≤◌, ◌&&◌, ◌||◌, List, [], ◌∷◌, ◌++◌, Bool, true, false, Option, Some, None, IfSome, IsSomeAnd, is_some, length, not, option_map}
+use Rattle.std.specs.Prelude.{◌≡◌, ⊤, ℕ, ◌<◌, ◌≤◌, ◌&&◌, ◌||◌, List, [], ◌∷◌, ◌++◌, Bool, true, false, Option, Some, None, IfSome, IsSome, IsSomeAnd, is_some, length, not, option_map}
 use Rattle.std.specs.List.{list_any}
 use Rattle.std.specs.Option.{option_map_or}
 use Rattle.std.specs.Str.{bytes_eq}
@@ -94,6 +94,19 @@ begins_otherwise files name fronts = is_some (files name) && not (begins_as_one 
 -- the name is that of an input, or what is under it begins in none of these ways
 abbrev pub is_spared : List Wanted → List Bytes → Files → Bytes → Bool
 is_spared inputs fronts files name = is_input inputs name || begins_otherwise files name fronts
+
+-- there are bytes under this name, and they are such
+abbrev pub HasSuch : (Bytes → Type 0) → Option Files → Bytes → Type 0
+HasSuch Such files name = IfSome files (λ told. IsSomeAnd (told name) Such)
+
+-- there are none, or they aren't
+abbrev pub HasNoSuch : (Bytes → Type 0) → Option Files → Bytes → Type 0
+HasNoSuch Such files name = IfSome files (λ told. IfSome (told name) (λ bytes. ¬ Such bytes))
+
+-- there are some, and any bytes may be such, so that these are looked at
+pub record TakesLook (Such : Bytes → Type 0) (files : Option Files) (name : Bytes) : Type 0 where
+  pub there : IfSome files (λ told. IsSome (told name))
+  pub such : (bytes : Bytes) × Such bytes
 
 -- ---- an input as the code has it
 

@@ -99,7 +99,7 @@ pub record HasRead (wanted : List Wanted) (old new : World) (inputs : List Bytes
 pub record HasReadAndTried (plan : Plan) (name : Bytes) (old new : World) (inputs : List Bytes) : Type 0 where
   pub mid : World
   pub are : HasRead plan.inputs old mid inputs
-  pub free : MayReplace plan old.files name
+  pub free : MayReplace plan old.files inputs name
   pub tried : IsTried name mid new
 
 -- this input is the first that was not read

@@ -9,7 +9,7 @@ use Rattle.byte_io.specs.declared.shelf.KeepFault.TheVariants as keep
 use Rattle.pdb_run.specs.Writing.{maker_line, memory_line, named_line, reply_text, shown}
 use Rattle.pdb_run.specs.Calls.{Calls, with_call, with_input, with_inputs, with_keep, with_trial}
 use Rattle.pdb_run.specs.Commands.{Plan, Reply, Wanted}
-use Rattle.pdb_run.specs.Inputs.{AreRead, Failures, IsAsTold, IsFirstUnread, is_spared, left_by_all}
+use Rattle.pdb_run.specs.Inputs.{AreRead, Failures, HasNoSuch, HasSuch, IsAsTold, IsFirstUnread, TakesLook, is_spared, left_by_all}
 use Rattle.pdb_run.specs.declared.statuses.Status.{Status}
 use Rattle.pdb_run.specs.declared.statuses.Status.TheVariants.{Yes, Refused, Fault, NoMemory}
 
@@ -38,6 +38,8 @@ pub data Outcome : Type 0 where
   unread : Wanted → ReadFault → Outcome
   -- what is under this name is spared, as was seen before anything was checked or made
   spared : Bytes → Outcome
+  -- want of memory to look at what is under this name, before anything was checked or made
+  unseen : Bytes → Outcome
   -- nothing can be kept under this name, as was tried before anything was checked or made
   unwritable : Bytes → KeepFault → Outcome
   -- a file that was made can't be kept under this name
@@ -61,6 +63,7 @@ text_of (unread wanted read.F1) = named_line (codes "fault read ") (shown wanted
 text_of (unread wanted read.F2) = named_line (codes "fault size ") (shown wanted.name)
 text_of (unread wanted read.Memory) = memory_line
 text_of (spared name) = unkept_text name keep.F3
+text_of (unseen name) = memory_line
 text_of (unwritable name why) = unkept_text name why
 text_of (unkept name why) = unkept_text name why
 text_of unlisted = memory_line
@@ -84,6 +87,7 @@ status_of (unread wanted read.F1) = Fault
 status_of (unread wanted read.F2) = Fault
 status_of (unread wanted read.Memory) = NoMemory
 status_of (spared name) = Fault
+status_of (unseen name) = NoMemory
 status_of (unwritable name why) = unkept_status why
 status_of (unkept name why) = unkept_status why
 status_of unlisted = NoMemory
@@ -101,12 +105,20 @@ IsRight plan old inputs reply = AreRead old.files old.reader plan.inputs inputs 
 abbrev pub SparesBy : Option (List Bytes) → List Wanted → Option Files → Bytes → Type 0
 SparesBy replaces inputs files name = IsSomeAnd replaces (λ fronts. IfSome files (λ told. is_spared inputs fronts told name ≡ true))
 
--- a file is to be kept under this name, the inputs hold these bytes at the start, and what is under the name is spared
+-- a file is to be kept under this name, the inputs hold these bytes at the start, and what is under the name is spared, for them or for
+-- any
 pub record IsSpared (plan : Plan) (old : World) (name : Bytes) : Type 0 where
   pub under : plan.keeps_under ≡ Some name
   pub inputs : List Bytes
   pub read : AreRead old.files old.reader plan.inputs inputs
-  pub spares : SparesBy plan.replaces plan.inputs old.files name
+  pub spares : SparesBy plan.replaces plan.inputs old.files name ⊎ HasSuch (plan.Spares inputs) old.files name
+
+-- the same, but it has to be looked at whether that is spared
+pub record IsUnseen (plan : Plan) (old : World) (name : Bytes) : Type 0 where
+  pub under : plan.keeps_under ≡ Some name
+  pub inputs : List Bytes
+  pub read : AreRead old.files old.reader plan.inputs inputs
+  pub looks : TakesLook (plan.Spares inputs) old.files name
 
 -- a file is to be kept under this name, the inputs hold these bytes at the start, and the shelf has failed when it was tried, or
 -- memory was wanted to try it
@@ -143,13 +155,14 @@ WantsMemory plan old = (inputs : List Bytes) × AreRead old.files old.reader pla
 abbrev pub HasMade : Plan → World → Type 0
 HasMade plan old = (inputs : List Bytes) × AreRead old.files old.reader plan.inputs inputs × plan.Makes inputs
 
--- a reply is right, the input that was not read is the first, what stands under the name is spared, nothing could be kept or the file
--- to keep was not, memory was wanted where the check takes some, and what was made is wrong where something is made; before any input is read memory may always be
--- wanted
+-- a reply is right, the input that was not read is the first, what stands under the name is spared or has to be looked at, nothing could
+-- be kept or the file to keep was not, memory was wanted where the check takes some, and what was made is wrong where something is made;
+-- before any input is read memory may always be wanted
 abbrev pub HasCause : Plan → World → Failures → Outcome → Type 0
 HasCause plan old failed (replied inputs reply) = IsRight plan old inputs reply
 HasCause plan old failed (unread wanted why) = IsFirstUnread old.files old.reader failed plan.inputs wanted why
 HasCause plan old failed (spared name) = IsSpared plan old name
+HasCause plan old failed (unseen name) = IsUnseen plan old name
 HasCause plan old failed (unwritable name why) = IsUnwritable plan old failed name why
 HasCause plan old failed (unkept name why) = IsUnkept plan old failed name why
 HasCause plan old failed unlisted = ⊤
@@ -170,6 +183,7 @@ abbrev pub LeavesFiles : Plan → Option Files → Option Files → Outcome → 
 LeavesFiles plan old new (replied inputs reply) = new ≡ with_kept old plan.keeps_under (kept reply)
 LeavesFiles plan old new (unread wanted why) = new ≡ old
 LeavesFiles plan old new (spared name) = new ≡ old
+LeavesFiles plan old new (unseen name) = new ≡ old
 LeavesFiles plan old new (unwritable name why) = new ≡ old
 LeavesFiles plan old new (unkept name why) = KeepsOthers old new name
 LeavesFiles plan old new unlisted = new ≡ old
@@ -181,12 +195,13 @@ LeavesFiles plan old new made_wrong = new ≡ old
 abbrev pub StaysCalm : Plan → Failures → Failures → Type 0
 StaysCalm plan old new = (name : Bytes) → plan.keeps_under ≡ Some name → new ≡ old
 
--- so it is after a reply, and with any plan where a file is spared, memory was wanted elsewhere than for an input, or what was made
--- is wrong; any other outcome may leave them failed
+-- so it is after a reply, and with any plan where a file is spared, memory was wanted elsewhere than for an input or a trial, or what
+-- was made is wrong; any other outcome may leave them failed
 abbrev pub LeavesFailure : Plan → Failures → Failures → Outcome → Type 0
 LeavesFailure plan old new (replied inputs reply) = StaysCalm plan old new
 LeavesFailure plan old new (unread wanted why) = ⊤
 LeavesFailure plan old new (spared name) = new ≡ old
+LeavesFailure plan old new (unseen name) = new ≡ old
 LeavesFailure plan old new (unwritable name why) = ⊤
 LeavesFailure plan old new (unkept name why) = ⊤
 LeavesFailure plan old new unlisted = new ≡ old
@@ -199,6 +214,7 @@ abbrev pub LeavesReader : Plan → Option Bytes → Option Bytes → Outcome →
 LeavesReader plan old new (replied inputs reply) = IsAsTold (left_by_all old plan.inputs) new
 LeavesReader plan old new (unread wanted why) = ⊤
 LeavesReader plan old new (spared name) = IsAsTold (left_by_all old plan.inputs) new
+LeavesReader plan old new (unseen name) = IsAsTold (left_by_all old plan.inputs) new
 LeavesReader plan old new (unwritable name why) = IsAsTold (left_by_all old plan.inputs) new
 LeavesReader plan old new (unkept name why) = IsAsTold (left_by_all old plan.inputs) new
 LeavesReader plan old new unlisted = new ≡ old
@@ -210,13 +226,15 @@ abbrev pub calls_before : Plan → Calls → Calls
 calls_before plan old = with_trial (with_inputs old plan.inputs) plan.keeps_under
 
 -- so they stand with a reply, and behind them the file's that is kept; an input that was not read, a trial or a keep that failed
--- is the last of them; a name under which a file is spared isn't tried; and before any input is read there is none
+-- is the last of them; a name under which a file is spared, or was to be looked at, isn't tried; and before any input is read there is
+-- none
 abbrev pub LeavesCalls : Plan → Calls → Calls → Outcome → Type 0
 LeavesCalls plan old new (replied inputs reply) = new ≡ with_keep (calls_before plan old) plan.keeps_under (kept reply)
 LeavesCalls plan old new (unread wanted why) =
     (before : List Wanted) × (behind : List Wanted) × (plan.inputs ≡ before ++ wanted ∷ behind)
     × (new ≡ with_input (with_inputs old before) wanted.name (Some why))
 LeavesCalls plan old new (spared name) = new ≡ with_inputs old plan.inputs
+LeavesCalls plan old new (unseen name) = new ≡ with_inputs old plan.inputs
 LeavesCalls plan old new (unwritable name why) = new ≡ with_call (with_inputs old plan.inputs) (tries name (Some why))
 LeavesCalls plan old new (unkept name why) = new ≡ with_call (calls_before plan old) (keeps name (Some why))
 LeavesCalls plan old new unlisted = new ≡ old
@@ -227,20 +245,26 @@ LeavesCalls plan old new made_wrong = new ≡ calls_before plan old
 abbrev pub MayReplaceBy : Option (List Bytes) → List Wanted → Option Files → Bytes → Type 0
 MayReplaceBy replaces inputs files name = IfSome replaces (λ fronts. IfSome files (λ told. is_spared inputs fronts told name ≡ false))
 
--- so it is by a plan
-abbrev pub MayReplace : Plan → Option Files → Bytes → Type 0
-MayReplace plan files name = MayReplaceBy plan.replaces plan.inputs files name
+-- so it is by a plan, also for the bytes of its inputs
+abbrev pub MayReplace : Plan → Option Files → List Bytes → Bytes → Type 0
+MayReplace plan files inputs name = MayReplaceBy plan.replaces plan.inputs files name × HasNoSuch (plan.Spares inputs) files name
 
 -- and under the name under which it keeps a file
-abbrev pub IsFree : Plan → Option Files → Type 0
-IsFree plan files = (name : Bytes) → plan.keeps_under ≡ Some name → MayReplace plan files name
+abbrev pub IsFree : Plan → Option Files → List Bytes → Type 0
+IsFree plan files inputs = (name : Bytes) → plan.keeps_under ≡ Some name → MayReplace plan files inputs name
+
+-- the inputs hold bytes at the start for which it is
+abbrev pub IsFreeAtStart : Plan → World → Type 0
+IsFreeAtStart plan old = (inputs : List Bytes) × AreRead old.files old.reader plan.inputs inputs × IsFree plan old.files inputs
 
 -- no name is tried, nothing is checked, made or kept, and no reply comes, where what is under it is spared
-abbrev pub SparesFiles : Plan → Option Files → Outcome → Type 0
-SparesFiles plan files (unread wanted why) = ⊤
-SparesFiles plan files unlisted = ⊤
-SparesFiles plan files (spared name) = ⊤
-SparesFiles plan files other = IsFree plan files
+abbrev pub SparesFiles : Plan → World → Outcome → Type 0
+SparesFiles plan old (unread wanted why) = ⊤
+SparesFiles plan old unlisted = ⊤
+SparesFiles plan old (spared name) = ⊤
+SparesFiles plan old (unseen name) = ⊤
+SparesFiles plan old (replied inputs reply) = IsFree plan old.files inputs
+SparesFiles plan old other = IsFreeAtStart plan old
 
 -- the text was written whole, and no write failed; or a write failed with at least one byte of it left to write
 abbrev pub Says : Bytes → Status → Output → Output → Status → Type 0
@@ -252,7 +276,7 @@ Says text with_text old new status = (WritesAll old new text × (status ≡ with
 pub record Ends (plan : Plan) (old new : World) (status : Status) : Type 0 where
   pub outcome : Outcome
   pub cause : HasCause plan old new.failed outcome
-  pub spares : SparesFiles plan old.files outcome
+  pub spares : SparesFiles plan old outcome
   pub files : LeavesFiles plan old.files new.files outcome
   pub calls : LeavesCalls plan old.calls new.calls outcome
   pub failure : LeavesFailure plan old.failed new.failed outcome
@@ -267,7 +291,7 @@ pub record IsAnswered (plan : Plan) (old new : World) (status : Status) : Type 0
   pub inputs : List Bytes
   pub reply : Reply
   pub right : IsRight plan old inputs reply
-  pub free : IsFree plan old.files
+  pub free : IsFree plan old.files inputs
   pub files : new.files ≡ with_kept old.files plan.keeps_under (kept reply)
   pub calls : new.calls ≡ with_keep (calls_before plan old.calls) plan.keeps_under (kept reply)
   pub failure : StaysCalm plan old.failed new.failed

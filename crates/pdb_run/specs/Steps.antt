@@ -22,7 +22,7 @@ pub record IsNext (wanted : Wanted) (old new : World) (before after : List Bytes
 -- the inputs were read, and the name was tried where a file is to be kept: what is behind them is for the check and the maker
 pub record HasBegun (plan : Plan) (old new : World) (inputs : List Bytes) : Type 0 where
   pub read : AreRead old.files old.reader plan.inputs inputs
-  pub free : IsFree plan old.files
+  pub free : IsFree plan old.files inputs
   pub behind : IsAsTold (left_by_all old.reader plan.inputs) new.reader
   pub calls : new.calls ≡ calls_before plan old.calls
   pub files : new.files ≡ old.files

@@ -1,6 +1,6 @@
 //! The shelf, the reader and the output of a run, as one.
 
-ghost use Rattle.std.specs.Prelude.{◌≡◌, ◌∷◌, [], Some, map, IfErr, IfOk, IfSome, OnOk};
+ghost use Rattle.std.specs.Prelude.{◌≡◌, ◌∷◌, ◌<◌, [], Some, length, map, option_map, IfErr, IfOk, IfSome, IsErrOf, IsNone, IsSome, IsSomeAnd, OnOk};
 ghost use Rattle.pdb_run.specs.Answers.{answer_text};
 ghost use Rattle.pdb_run.specs.Calls.{calls};
 ghost use Rattle.pdb_run.specs.Inputs.{begins_as_one, begins_otherwise, failures, is_input, is_spared, wanted_of};
@@ -37,6 +37,16 @@ pub trait Io {
     fn is_spared(&self, name: &str, inputs: &[Input<'_>], fronts: &[&[u8]]) -> bool
         ensures { let wanted = map wanted_of inputs.now in let all = map (λ front. front.now) fronts.now in
             IfSome (world self.now).files (λ told. result ≡ is_spared wanted all told name.now) };
+
+    /// The bytes under a name, which are at most so many, where there are some.
+    fn peek(&self, alloc: Global, name: &str, limit: u64) -> Result<Option<Vec<u8>>, ReadFault>
+        ensures found { IfOk result (λ found. IfSome (world self.now).files
+            (λ told. option_map (λ bytes. bytes.items) found ≡ told name.now)) }
+        ensures over { IsErrOf result ReadFault.F2 → IfSome (world self.now).files
+            (λ told. IsSomeAnd (told name.now) (λ bytes. limit < length bytes)) }
+        ensures failed { IsErrOf result ReadFault.F1 → IsNone (world self.now).files }
+        ensures memory { IsErrOf result ReadFault.Memory
+            → IfSome (world self.now).files (λ told. IsSome (told name.now)) };
 
     /// Tries whether bytes can be kept under a name.
     fn try_keep(&mut self, alloc: Global, name: &str) -> Result<(), KeepFault>
@@ -101,6 +111,10 @@ impl<S: Shelf, R: Source, W: Sink> Io for BorrowedIo<'_, '_, '_, S, R, W> {
 
     fn is_spared(&self, name: &str, inputs: &[Input<'_>], fronts: &[&[u8]]) -> bool {
         is_input(self.shelf, name, inputs) || begins_otherwise(self.shelf, name, fronts)
+    }
+
+    fn peek(&self, alloc: Global, name: &str, limit: u64) -> Result<Option<Vec<u8>>, ReadFault> {
+        self.shelf.peek(alloc, name, limit)
     }
 
     fn try_keep(&mut self, alloc: Global, name: &str) -> Result<(), KeepFault> {

@@ -23,7 +23,7 @@ pub use inputs::{Unread, load_all};
 pub use io::{BorrowedIo, Io};
 pub use mistakes::Mistake;
 pub use runs::{
-    Keeping, NO_MEMORY, conclude, keep_and_conclude, read_inputs, read_inputs_and_try,
+    Keeping, NO_MEMORY, Sparing, conclude, keep_and_conclude, read_inputs, read_inputs_and_try,
     say_no_memory, say_text, say_unread,
 };
 pub use statuses::Status;

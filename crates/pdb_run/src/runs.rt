@@ -1,10 +1,10 @@
 //! A run of a command: its beginning and its end. Between them the command checks.
 
-ghost use Rattle.std.specs.Prelude.{◌≡◌, List, None, Some, codes, false, length, map, true, MatchResult, IfErr, IfOk, OnErr, OnOk};
+ghost use Rattle.std.specs.Prelude.{◌≡◌, ◌↔◌, ◌<◌, List, None, Ok, Some, codes, false, length, map, true, MatchResult, IfErr, IfNone, IfOk, IfSome, IsTrue, OnErr, OnOk};
 ghost use Rattle.byte_io.specs.Shelf.{Bytes};
 ghost use Rattle.pdb_run.specs.Answers.{IsAnswerBy, IsMadeBy, all_bytes, answer_text};
 ghost use Rattle.pdb_run.specs.Ended.{HasItsStatus, status_by};
-ghost use Rattle.pdb_run.specs.Inputs.{wanted_of};
+ghost use Rattle.pdb_run.specs.Inputs.{HasNoSuch, HasSuch, TakesLook, wanted_of};
 ghost use Rattle.pdb_run.specs.Io.{HasRead, HasReadAndTried, IsKept, IsNotKept, IsSaid};
 ghost use Rattle.pdb_run.specs.Runs.{Ends, MayReplaceBy, SparesBy, World, spared, status_of, status_of_reply, text_of, unkept_status, unkept_text, unread};
 ghost use Rattle.pdb_run.specs.Steps.{fronts_in, kept_of};
@@ -77,6 +77,24 @@ fn read_wanted<'n, C: Command<'n>, F: Copy, I: Io>(
     }
 }
 
+/// Files that are spared by what was read.
+pub trait Sparing {
+    /// Which ones are, for inputs of these bytes.
+    ghost spares: { Self → List Bytes → Bytes → Type 0 };
+
+    /// Up to how many bytes files are looked at, where they are: longer ones are spared. Where they aren't, none is spared.
+    fn most_bytes(&self, inputs: &[Vec<u8>]) -> Option<u64>
+        ensures over { let Such = spares self.now (all_bytes inputs.now) in
+            IfSome result (λ most. (file : Bytes) → most < length file → Such file) }
+        ensures none { let Such = spares self.now (all_bytes inputs.now) in
+            IfNone result ((file : Bytes) → ¬ Such file) };
+
+    /// Whether a file is spared.
+    fn spares(&self, alloc: Global, inputs: &[Vec<u8>], file: &[u8]) -> Result<bool, AllocError>
+        ensures { let Such = spares self.now (all_bytes inputs.now) in
+            IfOk result (λ is. IsTrue is ↔ Such file.now) };
+}
+
 /// A name to keep a file under, and how the files begin whose place it may take there, if not that of any.
 #[derive(Clone, Copy)]
 pub struct Keeping<'n, 'f> {
@@ -88,14 +106,17 @@ pub struct Keeping<'n, 'f> {
 /// spared, and then tried whether one can be kept there. Where it is, or that fails, it is said, and the run has ended before
 /// anything is checked or made.
 #[tactic(auto, using(crate::proofs::AnswerLemmas::ends_unlisted))]
-pub fn read_inputs_and_try<'n, C: Command<'n>, F: Copy, I: Io>(
+pub fn read_inputs_and_try<'n, C: Command<'n>, S: Sparing, F: Copy, I: Io>(
     alloc: Global,
     command: &C,
     keeping: Keeping<'n, '_>,
+    sparing: &S,
     io: &mut I,
 ) -> Result<Vec<Vec<u8>>, Ended<'n, F>>
     requires under { (C.plan command.now).keeps_under ≡ Some keeping.name.now }
     requires replaces { (C.plan command.now).replaces ≡ fronts_in keeping }
+    requires spares { (inputs : List Bytes) (file : Bytes)
+        → (C.plan command.now).Spares inputs file ↔ S.spares sparing.now inputs file }
     ensures caused { IfErr result HasItsStatus }
     ensures same_streams { I.streams io.new ≡ I.streams io.old }
     ensures tried { let plan = C.plan command.now in let old = I.world io.old in IfOk result
@@ -112,13 +133,18 @@ pub fn read_inputs_and_try<'n, C: Command<'n>, F: Copy, I: Io>(
     if is_spared(&keeping, wanted.as_slice(), io) {
         return Err(say_spared(keeping.name, io));
     }
+    match spares_what_is_there(alloc, keeping.name, sparing, inputs.as_slice(), io) {
+        Ok(true) => return Err(say_spared(keeping.name, io)),
+        Ok(false) => {}
+        Err(_) => return Err(say_no_memory(io)),
+    }
     match io.try_keep(alloc, keeping.name) {
         Ok(()) => Ok(inputs),
         Err(why) => Err(say_unkept(keeping.name, why, io)),
     }
 }
 
-/// Whether a file is spared under a name, where these are the inputs.
+/// Whether a file is spared under a name, where these are the inputs, whatever they hold.
 fn is_spared<I: Io>(keeping: &Keeping<'_, '_>, inputs: &[Input<'_>], io: &I) -> bool
     ensures spared { let wanted = map wanted_of inputs.now in let files = (I.world io.now).files in
         result ≡ true → SparesBy (fronts_in keeping.now) wanted files keeping.now.name.now }
@@ -128,6 +154,32 @@ fn is_spared<I: Io>(keeping: &Keeping<'_, '_>, inputs: &[Input<'_>], io: &I) -> 
     match keeping.replaces {
         Some(fronts) => io.is_spared(keeping.name, inputs, fronts),
         None => false,
+    }
+}
+
+/// Whether a file is spared under a name, where this was read of the inputs.
+fn spares_what_is_there<S: Sparing, I: Io>(
+    alloc: Global,
+    name: &str,
+    sparing: &S,
+    inputs: &[Vec<u8>],
+    io: &I,
+) -> Result<bool, AllocError>
+    ensures spared { let Such = S.spares sparing.now (all_bytes inputs.now) in
+        result ≡ Ok true → HasSuch Such (I.world io.now).files name.now }
+    ensures free { let Such = S.spares sparing.now (all_bytes inputs.now) in
+        result ≡ Ok false → HasNoSuch Such (I.world io.now).files name.now }
+    ensures unseen { let Such = S.spares sparing.now (all_bytes inputs.now) in
+        OnErr result (TakesLook Such (I.world io.now).files name.now) }
+{
+    let Some(most) = sparing.most_bytes(inputs) else {
+        return Ok(false);
+    };
+    match io.peek(alloc, name, most) {
+        Ok(Some(file)) => sparing.spares(alloc, inputs, file.as_slice()),
+        Ok(None) => Ok(false),
+        Err(ReadFault::Memory) => Err(AllocError),
+        Err(_) => Ok(true),
     }
 }
 

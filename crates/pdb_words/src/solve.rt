@@ -33,7 +33,7 @@ three tables of five tiles whose solutions have fewer than about 55 moves; harde
 The search is one thread's work, whatever --workers says: workers share the checks. Tables
 that make-table builds are built by all processors.
 OUT is replaced once its log is found good; until then, and otherwise, it stays as it is. An
-OUT that is an input, or no log, is replaced only with --replace.
+OUT that is an input, or no log of BOARD, is replaced only with --replace.
 `prove` answers a board without a log.
 
 Reads BOARD, SETS and TABLES. Answers the digests of the tables and the log, `moves ..` and

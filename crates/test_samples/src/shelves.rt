@@ -87,6 +87,10 @@ impl Shelf for FailingShelf {
         self.files.begins_with(name, front)
     }
 
+    fn peek(&self, alloc: Global, name: &str, limit: u64) -> Result<Option<Vec<u8>>, ReadFault> {
+        self.files.peek(alloc, name, limit)
+    }
+
     fn is_read_only(&self, name: &str) -> bool {
         self.files.is_read_only(name)
     }

@@ -28,7 +28,7 @@ returns-in-Err-clause-ends g c = λ inputs old are by.
       file = made.0;
       is_kept = rw (← right.2.made, ← right.2.is_yes) made.1;
       has_failed = failed.has_failed;
-    } begun.free (rw (← begun.files) failed.files) (rw (← begun.calls) failed.calls) tt (rw failed.reader begun.behind)
+    } (inputs, begun.read, begun.free) (rw (← begun.files) failed.files) (rw (← begun.calls) failed.calls) tt (rw failed.reader begun.behind)
     (failed.written ∙ begun.written)
 
 -- where the maker wants memory, saying so ends the run and nothing is kept
