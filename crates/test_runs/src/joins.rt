@@ -28,7 +28,11 @@ struct Said {
 }
 
 /// What is said of the bound 6 of that board in so many parts, where these are the files of answer lines.
-fn said<R: AllocGlobal + Abort>(rt: &R, count: u16, texts: [&[u8]; 3]) -> Result<Said, AllocError> {
+fn said_of<R: AllocGlobal + Abort>(
+    rt: &R,
+    count: u16,
+    texts: [&[u8]; 3],
+) -> Result<Said, AllocError> {
     assert!(rt; count % 2 == 1);
     let alloc = rt.alloc();
     let [a, b, c] = texts;
@@ -69,7 +73,7 @@ struct Case<'t> {
 
 /// Ends the test where something else is said of three parts.
 fn expect_case<R: AllocGlobal + Abort>(rt: &R, case: &Case<'_>) -> Result<(), Fail> {
-    let said = said(rt, 3, case.texts)?;
+    let said = said_of(rt, 3, case.texts)?;
     holds_for(
         rt,
         said.text.as_slice().ends_with(case.end.as_bytes()),
@@ -132,7 +136,7 @@ fn expect_last<R: AllocGlobal + Abort>(rt: &R, text: &[u8], count: usize, part: 
 fn open_parts_are_read_as_claims_and_their_answers_give_the_bound(
     rt: HostRuntime,
 ) -> Result<(), Fail> {
-    let open = said(&rt, 63, [b""; 3])?;
+    let open = said_of(&rt, 63, [b""; 3])?;
     let mut answers = Vec::new(rt.alloc());
     for index in 0..63 {
         let part = BoundPart::new(index, 63).expect(&rt, "a part");
@@ -144,7 +148,7 @@ fn open_parts_are_read_as_claims_and_their_answers_give_the_bound(
     }
     let last = BoundPart::new(62, 63).expect(&rt, "a part");
     expect_last(&rt, open.text.as_slice(), 63, last);
-    let given = said(&rt, 63, [answers.as_slice(), b"", b""])?;
+    let given = said_of(&rt, 63, [answers.as_slice(), b"", b""])?;
     let line = "joined bound 6 of 3 2 1 0 from 63 parts, by lines that were read\n";
     holds_for(&rt, given.text.as_slice().ends_with(line.as_bytes()), &line);
     Ok(())
