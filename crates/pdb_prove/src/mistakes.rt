@@ -27,7 +27,7 @@ pub(crate) fn beside_fault(text: &[u8], fault: ClaimsFault) -> Beside {
     match fault {
         ClaimsFault::Memory => Beside::Nothing,
         ClaimsFault::Q1 { line } if line >= MOST_LINES => {
-            Beside::Spot(spot(0, Mistake::ManyClaims))
+            Beside::Spot(spot(0, Mistake::ManyLines))
         }
         ClaimsFault::Q1 { line } => {
             let found = text.split(|byte| *byte == b'\n').nth(line as usize);
@@ -75,7 +75,7 @@ fn spot_in(line: &[u8]) -> Option<Spot> {
 /// What is wrong with a line as a whole.
 fn whole_line_mistake(line: &[u8]) -> Option<Mistake> {
     if is_remark(line) {
-        Some(Mistake::EmptyLine)
+        Some(Mistake::NoClaim)
     } else if line.starts_with(b"\xef\xbb\xbf") {
         Some(Mistake::ByteOrderMark)
     } else if ANSWERS.iter().any(|front| line.starts_with(*front)) {

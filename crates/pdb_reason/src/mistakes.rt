@@ -5,11 +5,10 @@ use pdb_run::Mistake;
 /// What is wrong. Behind that of a board's numbers stands how many there are.
 pub(crate) fn mistake_text(mistake: Mistake) -> &'static str {
     match mistake {
-        Mistake::EmptyLine => "the line is empty",
-        Mistake::Comment => "a line that begins with `#` is no comment here",
+        Mistake::NoClaim => "the text has no claim",
         Mistake::ByteOrderMark => "a byte order mark stands before the claim",
         Mistake::Answer => "it is an answer: its claim is what stands behind `of`",
-        Mistake::ManyClaims => "a text has at most 1,048,576 claims",
+        Mistake::ManyLines => "a text has at most 1,048,576 lines",
         Mistake::NumbersParted => "numbers are parted by spaces alone",
         Mistake::SignedNumber => "numbers have no sign",
         Mistake::OtherBlank => "the blank is written 0",

@@ -3,11 +3,10 @@
 /// What is wrong with a line that is no claim, as far as people are told: `pdb_reason` has it in words.
 #[derive(Clone, Copy, Debug, PartialEq, Eq)]
 pub enum Mistake {
-    EmptyLine,
-    Comment,
+    NoClaim,
     ByteOrderMark,
     Answer,
-    ManyClaims,
+    ManyLines,
     NumbersParted,
     SignedNumber,
     OtherBlank,
