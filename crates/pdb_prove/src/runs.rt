@@ -145,13 +145,7 @@ fn answer_claims<'n, H: Threads + Wait + Sync, G: Gate + Sync, I: Io>(
     let kept = tables.as_slice();
     let files = TableFiles { given, kept, fold };
     let (digested, bundle) = over_tables(files, Some(text), sets.as_slice(), workers, identity);
-    let ready = Ready::of(
-        command.0.goal,
-        text,
-        claims,
-        budget_of(command.0),
-        bundle,
-    );
+    let ready = Ready::of(command.0.goal, text, claims, budget_of(command.0), bundle);
     let Ready { mut asked, bundle } = match begin(command, digested, ready, io) {
         Ok(ready) => ready,
         Err(ended) => return ended,
