@@ -1,7 +1,8 @@
 //! Why nothing is kept under a name.
 
 use crate::texts::{
-    OUT_IS_ANOTHER_LOG, OUT_IS_ANOTHER_TABLE, OUT_IS_LOG, OUT_IS_NEITHER, OUT_IS_READ, OUT_IS_READ_ONLY, OUT_IS_TABLE,
+    OUT_IS_ANOTHER_LOG, OUT_IS_ANOTHER_TABLE, OUT_IS_LOG, OUT_IS_NEITHER, OUT_IS_READ,
+    OUT_IS_READ_ONLY, OUT_IS_TABLE,
 };
 use byte_io::shelf::Shelf;
 use pdb_request::{Request, Solve};

@@ -26,13 +26,12 @@ returns-clause-ends c =
     let there : (lemma : Lemma) → IsLast log.lemmas lemma → slice_get log.lemmas (c.len.result - 1) ≡ Some lemma =
     λ lemma is. subst (λ count. slice_get log.lemmas (count - 1) ≡ Some lemma) (sym c.len.ensures.count) is in
     let side : side_of b ≡ log.side = search rules in
-    let is_board = subst (λ n. IsBoardOf n b) side c.side-2.ensures.board in
-    (
+    let is_board = subst (λ n. IsBoardOf n b) side c.side-2.ensures.board in (
       λ yes. record {
         last = last.0;
         is_last = last.1;
         board = sym (c.board.ensures.value last.0 (there last.0 last.1))
-        ∙ boards_same log.side a b c.board.ensures.board is_board (eqb (side_of a) (side_of b)) (eqb (blank a) (blank b)) (sym c.eq.ensures ∙ yes);
+            ∙ boards_same log.side a b c.board.ensures.board is_board (eqb (side_of a) (side_of b)) (eqb (blank a) (blank b)) (sym c.eq.ensures ∙ yes);
       },
       λ ends. let same : a ≡ b = c.board.ensures.value ends.last (there ends.last ends.is_last) ∙ ends.board in search (rules, same),
     )
