@@ -4,9 +4,9 @@
     tools/choose_tables.py CLAIMS --tiles 6 --sets 2 --memory 6 >run.sh
 
 CLAIMS is a claims text of `prove`, of boards that are alike: one choice is made for all of them. What is written is a script: it makes
-the tables and the set text, and answers the claims. Its comments say how many boards are expected at each threshold, in which
-time and memory, and whether choosing pays beside the tables of `--instead`. Nobody has to trust any of this: `prove` checks the
-tables, and its answers hold for all sets. For the same input the choice is the same.
+the tables and the set text, answers the claims, and ends at the first of these that fails. Its comments say how many boards are
+expected at each threshold, in which time and memory, and whether choosing pays beside the tables of `--instead`. Nobody has to
+trust any of this: `prove` checks the tables, and its answers hold for all sets. For the same input the choice is the same.
 
 How: boards of the search are sampled at a third of the moves, the patterns are counted on them by A* over tables of three tiles, and
 of all partitions into connected patterns the one is taken whose sums are greatest on the mean. The boards that this set leaves are
@@ -328,6 +328,7 @@ def script(kernel, claims, sets, options):
     """The lines of the script, and what is expected."""
     side, plan, total = claims[0].side, Plan(claims[0].side, sets), 0
     taken = kernel.seconds()
+    yield "set -e"
     for place, claim in enumerate(claims):
         for fewer, boards in thresholds(kernel, claim, sets, options):
             yield f"# claim {place}, below {fewer}: {boards:.2g} boards"
@@ -338,11 +339,11 @@ def script(kernel, claims, sets, options):
     instead = options.instead or (None if options.take else KNOWN.get((side, options.tiles)))
     if instead:
         yield compared(kernel, claims, instead, options, taken + make + answer)
-    for place, mask in enumerate(plan.masks):
+    for mask in plan.masks:
         tiles = ",".join(str(tile) for tile in range(side * side) if mask >> tile & 1)
-        yield f"./pdb_cli make-table {side} tiles:{tiles} t{place} --workers {options.workers}"
+        yield f"./pdb_cli make-table {side} tiles:{tiles} t{mask} --workers {options.workers}"
     yield "printf '{}\\n' >sets".format(plan.text.replace("\n", "\\n"))
-    names = " ".join(f"t{place}" for place in range(len(plan.masks)))
+    names = " ".join(f"t{mask}" for mask in plan.masks)
     yield f"./pdb_cli prove {shlex.quote(options.claims)} sets {names} --workers {options.workers}"
 
 

@@ -66,7 +66,6 @@ choose four --tiles 5 --sets 1
 check 'tables are chosen on side 4' [ "$status" = 0 ]
 cp "$work/output" on_four
 check 'each set on side 4 has each tile once' have_each_tile_once on_four 16
-rm -f t[0-9]* # which make-table would spare
 check 'the script on side 4 answers the claim' answers on_four "bound 57 of $korf"
 expected=$(sed -n 's/^# claim 0, below 57: \(.*\) boards$/\1/p' on_four)
 tail -n 1 on_four >run
@@ -76,6 +75,9 @@ for factor in 0.5 2; do
     sed "s/$/ --budget $(printf '%.0f' "$(awk "BEGIN { print $factor * $expected }")")/" run >budgeted
     check "$factor times the $expected boards that are expected end in $wanted" answers budgeted "$wanted"
 done
+in_the_way=$(grep -o 't[0-9]* --workers' on_four | head -n 1 | cut -d ' ' -f 1)
+echo no table >"$in_the_way"
+check 'a script ends where a table is not made' answers on_four "fault write $in_the_way"
 echo "$korf" >bare
 choose bare --tiles 4 --sets 1 --most 1e4
 check 'thresholds of a bare board are told in steps of two' \

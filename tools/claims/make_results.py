@@ -55,7 +55,7 @@ printf 'set 0 1 2 3\\nset 0t 1t 2t 3t\\n' >sets
     diff - docs/results/korf_felner_2002.answers
 ```
 
-The last searches expand {boards} boards in all. The count of number 6 is rounded. One run wrote all these answers, in 17 minutes and 23 minutes of processor time, by four workers beside other work.
+The last searches expand {boards} boards in all. The count of number 6 is rounded. One run wrote the answers of numbers 37 and 43, in 7 minutes of processor time, and another those of all others, in 23; each by four workers, beside other work.
 """
 OPEN = """\
 ## {count} boards of Korf and Felner that are open
