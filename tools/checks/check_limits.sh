@@ -118,7 +118,7 @@ check "a run that folds has all tables, and one of them folded: $most bytes" [ "
 check "a run over folded tables has a byte a placement: $least bytes" [ "$least" -le "$((folded_bytes + besides))" ]
 
 # Of files of answers one is held at a time: here 16 of 62 MB, each with the lines of all parts at its end.
-{ yes 'part 0/3 of bound 6 of 0 1 2 3' | head -n 2000000 && printf 'part %s/3 of bound 6 of 3 2 1 0\n' 0 1 2; } >answers
+{ yes 'part 0/3 of bound 6 of 0 1 2 3' | head -n 2000000; printf 'part %s/3 of bound 6 of 3 2 1 0\n' 0 1 2; } >answers
 mapfile -t files < <(yes answers | head -n 16)
 measure 0 parts board 6 3 "${files[@]}"
 said='joined bound 6 of 3 2 1 0 from 3 parts, by lines that were read'
