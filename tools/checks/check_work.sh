@@ -111,6 +111,7 @@ plain "$work/near_plain" --each near set_0 tiles_14
 step solve near set_0 made tiles_14
 check 'solve searches below each threshold once' searched 0 "$work/near_plain"
 check 'solve tells its pace' paced
+rm made
 
 # Some claims that are decided without a search or by few boards, two that are not, and more of the first kind.
 printf '%s\n' '1 0 2 3 4 5 6 7 8' "$(cat near) : 20" "$(cat near) : 22" '2 1 0 3 4 5 6 7 8' "$(cat near) ; DU" "$(cat far)" \
