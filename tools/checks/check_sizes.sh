@@ -195,6 +195,7 @@ expect 'bound of a large lemma that claims too much' 1 "${told[@]}" 'refused L6 
 "$bare" make-table 2 6 two >/dev/null
 echo '3 2 1 0' >board
 echo 'set 0' >set_0
+rm made
 for count in 25 40; do
     mapfile -t files < <(yes two | head -n "$count")
     digest_lines "${files[@]}" two
