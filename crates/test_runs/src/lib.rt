@@ -27,7 +27,6 @@ mod gates;
 #[cfg(test)]
 mod in_memory;
 #[cfg(test)]
-mod joins;
 #[cfg(test)]
 mod keeping;
 #[cfg(test)]
