@@ -9,7 +9,7 @@
 log=$kept/build.log
 # What the kit must have said last of the program, word by word. Of a library it is the same, but for how many functions it has and
 # how many of them may wait, and without the words from `axioms` to `main`.
-verdict='logic=proved functions=14 axioms=43 target=x86_64-unknown-linux-gnu cpu=x86-64-v2 threads=_exit,abort,free,malloc,pthread_attr_destroy,pthread_attr_init,pthread_attr_setguardsize,pthread_attr_setstacksize,pthread_create,pthread_detach,pthread_join,pthread_self,sched_yield,syscall main=Threads+Wait may-wait=1 sum=dac8208d650f15bf native=nat,char,string logic-built=trusted libraries-built=trusted statements=trusted'
+verdict='logic=proved functions=15 axioms=43 target=x86_64-unknown-linux-gnu cpu=x86-64-v2 threads=_exit,abort,free,malloc,pthread_attr_destroy,pthread_attr_init,pthread_attr_setguardsize,pthread_attr_setstacksize,pthread_create,pthread_detach,pthread_join,pthread_self,sched_yield,syscall main=Threads+Wait may-wait=1 sum=dac8208d650f15bf native=nat,char,string logic-built=trusted libraries-built=trusted statements=trusted'
 
 # Takes the lock of the builds as the descriptor `lock`, and waits for it.
 take_lock() {
