@@ -345,7 +345,7 @@ def streams(program, checks, claims, tables):
     draw, cut = random.Random(9), 0
     for _ in range(12):
         with open(program.folder / "lines", "wb") as lines:
-            started = subprocess.Popen([program.path, *words], cwd=program.folder, stdout=lines)
+            started = subprocess.Popen([program.path, *words], cwd=program.folder, stdout=lines, stderr=subprocess.DEVNULL)
             time.sleep(draw.uniform(0, seconds))
             started.kill()
             started.wait()
