@@ -3,7 +3,7 @@
 
 use byte_io::disk::DiskShelf;
 use byte_io::watched::Watched;
-use pdb_early::{Look, fault_ahead, may_be_last, takes_long};
+use pdb_early::{KeptStart, Look, fault_ahead, file_may_be_last, input_may_be_last, takes_long};
 use pdb_program::{ArgumentFault, ProgramCall, ReadArguments, RunHost, start};
 use pdb_progress::{Watch, checked_files, is_asked_for};
 use pdb_reason::{Beginning, Reason, SolvableLast, Summary};
@@ -54,24 +54,24 @@ fn beginning_of(rt: &HostRuntime, name: &str) -> io::Result<Beginning> {
     Ok(Beginning::of(&bytes[..count]))
 }
 
-/// Tells on standard error why a run ended without a yes, or why it will end so. What can't be told is left out.
+/// Tells on standard error why a run ended without a yes, or why it will end so, where standard input begins so as far as it is read.
+/// What can't be told is left out.
 fn tell_reason<'n>(
     rt: &HostRuntime,
     asked: &Request<'n>,
-    why: Cause<'n, Fault>,
-    beside: Beside,
-    is_ahead: bool,
+    reason: Option<Reason<'n>>,
+    input: &[u8],
 ) -> io::Result<()> {
-    let Some(reason) = Reason::of(asked, why) else {
+    let Some(reason) = reason else {
         return Ok(());
     };
-    let reason = reason.on_shelf(asked, &DiskShelf::new(rt)).beside(beside);
+    let reason = reason.on_shelf(asked, &DiskShelf::new(rt));
     let beginning = match reason.name() {
-        None => Beginning::OfAny,
         Some(name) => beginning_of(rt, name).unwrap_or(Beginning::OfAny),
+        None if reason.is_of_input() => Beginning::of(input),
+        None => Beginning::OfAny,
     };
-    let reason = reason.beginning(beginning);
-    rt.eprintln(if is_ahead { reason.ahead() } else { reason })
+    rt.eprintln(reason.beginning(beginning))
 }
 
 /// How long the line is that a build writes at the end of the program's file.
@@ -115,36 +115,37 @@ fn tell_before(rt: &HostRuntime, asked: &Request<'_>) {
     if takes_long(rt, asked)
         && let Some(fault) = fault_ahead(&look, asked)
     {
-        let _ = tell_reason(rt, asked, Cause::Refused(fault), Beside::Nothing, true);
+        let reason = Reason::of(asked, Cause::Refused(fault));
+        let _ = tell_reason(rt, asked, reason.map(|reason| reason.ahead()), b"");
     }
-    if is_asked_for(rt) && may_be_last(&look, asked) {
+    if is_asked_for(rt) && file_may_be_last(&look, asked) {
         let _ = rt.eprintln(BLANK_FIRST);
     }
 }
 
-/// Tells what is to be told of a run that has ended. Nobody is left to be told that standard error failed.
-fn tell_after<'n>(rt: &HostRuntime, asked: &Request<'n>, ended: &Ended<'n, Fault>) {
+/// Tells what is to be told of a run that has ended and read this start of standard input. Nobody is left to be told that standard error
+/// failed.
+fn tell_after<'n>(rt: &HostRuntime, asked: &Request<'n>, ended: &Ended<'n, Fault>, input: &[u8]) {
     if let Some(why) = ended.why {
-        let _ = tell_reason(rt, asked, why, ended.beside, false);
+        let reason = Reason::of(asked, why).map(|reason| reason.beside(ended.beside));
+        let _ = tell_reason(rt, asked, reason, input);
+    }
+    if is_asked_for(rt) && input_may_be_last(asked, input) {
+        let _ = rt.eprintln(BLANK_FIRST);
     }
     if let Beside::Tally(tally) = ended.beside {
-        tell_tally(rt, asked, tally);
+        tell_tally(rt, tally);
     }
 }
 
-/// Tells how claims were answered, and where the blank was at home, where that may be missed.
-fn tell_tally(rt: &HostRuntime, asked: &Request<'_>, tally: Tally) {
+/// Tells how claims were answered.
+fn tell_tally(rt: &HostRuntime, tally: Tally) {
     if tally.solvable_last > 0 {
         let _ = rt.eprintln(SolvableLast(tally.solvable_last));
     }
-    if !is_asked_for(rt) {
-        return;
+    if is_asked_for(rt) {
+        let _ = rt.eprintln(Summary(tally));
     }
-    let is_from_input = matches!(asked, Request::Prove(prove) if prove.claims.is_none());
-    if is_from_input && tally.may_be_last {
-        let _ = rt.eprintln(BLANK_FIRST);
-    }
-    let _ = rt.eprintln(Summary(tally));
 }
 
 /// The files that the run checks, in order, where they are to be told and can be.
@@ -160,7 +161,8 @@ fn main(rt: HostRuntime) -> ExitCode {
     let mut shelf = DiskShelf::new(&rt);
     let mut stdin = rt.stdin();
     let mut stdout = rt.stdout();
-    let mut reader = Watched::new(&mut stdin);
+    let mut input = KeptStart::new(&mut stdin);
+    let mut reader = Watched::new(&mut input);
     let mut out = Watched::new(&mut stdout);
     let mut err = rt.stderr();
     let all = arguments(&rt);
@@ -184,7 +186,7 @@ fn main(rt: HostRuntime) -> ExitCode {
     let ended = start(call, &mut shelf, &mut reader, &mut out, &mut err);
     gate.ends_claim();
     if let Some(asked) = asked {
-        tell_after(&rt, asked, &ended);
+        tell_after(&rt, asked, &ended, input.kept());
     }
     if ended.why.is_none() && asks_for_version(&all) && tell_sources(&rt).is_err() {
         return ExitCode::from(Status::Fault.code());

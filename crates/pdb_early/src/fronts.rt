@@ -7,7 +7,7 @@ use std::rt::Files;
 use std::{fs, io};
 
 /// How many bytes of a file are looked at.
-const MOST_SEEN: usize = 4096;
+pub(crate) const MOST_SEEN: usize = 4096;
 
 /// The start of a plain file.
 #[derive(Drop)]

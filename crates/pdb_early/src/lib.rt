@@ -3,8 +3,10 @@
 
 mod fronts;
 mod headers;
+mod inputs;
 mod logs;
 mod looks;
 mod sets;
 
-pub use looks::{Look, fault_ahead, may_be_last, takes_long};
+pub use inputs::KeptStart;
+pub use looks::{Look, fault_ahead, file_may_be_last, input_may_be_last, takes_long};

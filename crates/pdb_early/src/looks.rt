@@ -72,33 +72,43 @@ pub fn fault_ahead<R: Files>(look: &Look<'_, R>, asked: &Request<'_>) -> Option<
 
 /// Whether a run that has the blank first at home reads a board from a file that has a solution with the blank last. Of claims the first
 /// board counts.
-pub fn may_be_last<R: Files>(look: &Look<'_, R>, asked: &Request<'_>) -> bool {
-    let first = || {
-        let front = look.front(board_file(asked)?)?;
-        let text = match asked {
-            Request::Prove(_) => {
-                let mut lines = front.bytes().split(|byte| *byte == b'\n');
-                lines.find(|line| !is_remark(line))?
-            }
-            _ => front.whole()?,
-        };
-        let text = text.split(|byte| *byte == b';' || *byte == b':').next()?;
-        Board::read(text).ok()
+pub fn file_may_be_last<R: Files>(look: &Look<'_, R>, asked: &Request<'_>) -> bool {
+    let Some(Some(name)) = board_text(asked) else {
+        return false;
     };
-    match first() {
-        Some(board) => is_solvable_last(asked.goal(), &board),
+    match look.front(name) {
+        Some(front) => may_be_last(asked, front.bytes()),
         None => false,
     }
 }
 
-/// The file of the text that has a board.
-fn board_file<'n>(asked: &Request<'n>) -> Option<&'n str> {
+/// Whether it reads such a board from standard input, which begins so.
+pub fn input_may_be_last(asked: &Request<'_>, start: &[u8]) -> bool {
+    matches!(board_text(asked), Some(None)) && may_be_last(asked, start)
+}
+
+/// Whether the first board of a text that begins so has a solution with the blank last, where the blank is first at home.
+fn may_be_last(asked: &Request<'_>, start: &[u8]) -> bool {
+    let mut lines = start.split(|byte| *byte == b'\n');
+    let first = match asked {
+        Request::Prove(_) => lines.find(|line| !is_remark(line)),
+        _ => Some(start),
+    };
+    let board = first.and_then(|text| text.split(|byte| *byte == b';' || *byte == b':').next());
+    match board.map(|text| Board::read(text)) {
+        Some(Ok(board)) => is_solvable_last(asked.goal(), &board),
+        _ => false,
+    }
+}
+
+/// Where the text is that has a board: the file of a name, or standard input.
+fn board_text<'n>(asked: &Request<'n>) -> Option<Option<&'n str>> {
     match asked {
-        Request::Replay(replay) => replay.puzzle,
-        Request::LogCheck(check) => Some(check.text),
-        Request::Solve(search) => Some(search.board),
-        Request::Prove(prove) => prove.claims,
-        Request::JoinParts(parts) => parts.board,
+        Request::Replay(replay) => Some(replay.puzzle),
+        Request::LogCheck(check) => Some(Some(check.text)),
+        Request::Solve(search) => Some(Some(search.board)),
+        Request::Prove(prove) => Some(prove.claims),
+        Request::JoinParts(parts) => Some(parts.board),
         Request::TableCheck(_) | Request::MakeTable(_) => None,
     }
 }

@@ -23,7 +23,7 @@ use claim_text::{
 };
 use move_strings::Automaton;
 use pdb_run::{AnswerLines, Io, Tally};
-use pdb_verdict::{Fault, is_solvable_last, is_solvable_last_alone, line_of};
+use pdb_verdict::{Fault, is_solvable_last_alone, line_of};
 use puz_goal::Goal;
 use puz_search::Letters;
 use puz_walk::Start;
@@ -84,10 +84,6 @@ impl<'c> Asked<'c> {
             parts: 0,
             refused: 0,
             solvable_last: 0,
-            may_be_last: claims
-                .as_slice()
-                .first()
-                .is_some_and(|claim| is_solvable_last(goal, &claim.board)),
         };
         let reversals = Automaton::of_reversals(alloc, bundle.side())?;
         let mut starts = Vec::new(alloc);

@@ -84,6 +84,11 @@ impl<'a> Reason<'a> {
         }
     }
 
+    /// Whether it speaks of standard input.
+    pub fn is_of_input(&self) -> bool {
+        matches!(self.name, Named::StandardInput)
+    }
+
     /// The same, of a run that did what was asked on this shelf: where nothing was kept since what is there is spared, or is
     /// read-only, that is told.
     pub fn on_shelf<S: Shelf>(self, asked: &Request<'_>, shelf: &S) -> Reason<'a> {

@@ -52,8 +52,6 @@ pub struct Tally {
     pub refused: usize,
     /// How many are refused whose boards were read for the first goal, and have a solution for the last one alone.
     pub solvable_last: usize,
-    /// Whether the first board was read for the first goal, and has a solution for the last one.
-    pub may_be_last: bool,
 }
 
 /// What is told of a run to people alone.
