@@ -108,6 +108,7 @@ refused M2 at step 0|m2_last: the move at step 0 takes the blank off the board. 
 refused M2 at step 0|m2_ten: the move at step 0 takes the blank off the board|replay m2_ten
 refused M3|m3: there are more than 1000 moves|replay m3
 refused M4|standard input: the moves don't end on the goal board, which has each number in its own cell|<m4
+refused M4|standard input: the moves don't end on the goal board, which has each number in its own cell. If the blank, 0, is last on your goal board, add --goal last|<m4_last replay
 refused M4|m4_last: the moves don't end on the goal board, which has each number in its own cell. If the blank, 0, is last on your goal board, add --goal last|replay m4_last
 refused M4|m4: the moves don't end on the goal board, which has the blank last|replay --goal last m4
 refused T1|t1: a table file has at least 20 bytes|table t1
@@ -149,11 +150,13 @@ refused M4 of 1 0 2 3 ; LR||prove m4 one_set F12
 refused K1 of 3 2 1 0||prove board one_set F12 --budget 1
 3 2 1 0 : 6 part 0/1||parts board 6 1 /dev/null
 refused P1|F12: there is no `;` between a board and its moves. It begins as a table does: is a word left out before it?|replay F12
+refused P1|standard input: there is no `;` between a board and its moves. It begins as a table does: is a word left out before it?|<F12
 refused P1|leaf: there is no `;` between a board and its moves. It begins as a log does: is a word left out before it?|replay leaf
 refused B1 at byte 0|F12: byte 0 of the board is no digit, space, tab or line end. It begins as a table does: is a word left out before it?|bound F12 one_set leaf F123
 refused S1 at line 0|leaf: line 0 isn't `set` and ascending numbers of tables, one space before each, with a line end and no CR. It begins as a log does: is a word left out before it?|solve board leaf made F123
 refused L1|F12: a log file begins with `PDBL`, a version, a side and a number of lemmas. It begins as a table does: is a word left out before it?|bound board one_set F12 F123
 refused T2 of table 1|leaf: a table file begins with `PDBT` and a byte 1. It begins as a log does: is a word left out before it?|prove board one_set F12 leaf
+refused Q1 at line 0|standard input: line 0 is none of `BOARD`, `BOARD ; MOVES`, `BOARD : N` and `BOARD : N part I/K`. It begins as a table does: is a word left out before it?|<F12 prove - one_set F12
 refused Q1 at line 0|F12: line 0 is none of `BOARD`, `BOARD ; MOVES`, `BOARD : N` and `BOARD : N part I/K`. It begins as a table does: is a word left out before it?|prove F12 one_set F12
 fault read none|none: it can't be read: is it there, is it no folder, and may you read it?|replay none
 fault read .|.: it can't be read: is it there, is it no folder, and may you read it?|table .

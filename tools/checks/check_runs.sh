@@ -1236,6 +1236,15 @@ status=0
 PDB_PROGRESS=1 "$bare" prove - one_set three_of_side_3 <<<'1 0 2 3 4 5 6 7 8' >"$work/output" 2>"$work/errors" || status=$?
 check 'and of claims on standard input behind the answers where the blank is at home' \
     [ "$status.$(cat "$work/errors")" = "0.$blank_first"$'\n''pdb_cli: 1 claim: 1 optimal' ]
+status=0
+PDB_PROGRESS=1 "$bare" replay <<<'1 0 2 3 4 5 6 7 8 ; L' >"$work/output" 2>"$work/errors" || status=$?
+check 'so of a board with moves' [ "$status.$(cat "$work/output" "$work/errors")" = "0.solution 1"$'\n'"$blank_first" ]
+status=0
+PDB_PROGRESS=1 "$bare" parts - 20 3 /dev/null <<<'1 2 3 4 0 6 7 5 8' >"$work/output" 2>"$work/errors" || status=$?
+check 'and of a bound in parts' [ "$status.$(cat "$work/errors")" = "1.$blank_first" ]
+status=0
+PDB_PROGRESS=1 "$bare" replay --goal last <<<'1 2 3 4 5 6 7 0 8 ; R' >"$work/output" 2>"$work/errors" || status=$?
+check 'not with the blank last' [ "$status.$(cat "$work/output" "$work/errors")" = '0.solution 1 with the blank last' ]
 
 #
 # Changed inputs.
