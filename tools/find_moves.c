@@ -73,7 +73,7 @@ static int is_solvable(const uint8_t *board)
     return !odd;
 }
 
-/* The boards of least key are those whose greatest sum is least, and of these those whose sums are least together. */
+/* A board's key is the mean of its sums and the greatest of them, which counts twice, in sixteenths of a move. */
 static void judge(struct stand *it)
 {
     int greatest = 0, together = 0;
@@ -81,7 +81,7 @@ static void judge(struct stand *it)
         greatest = it->sum[s] > greatest ? it->sum[s] : greatest;
         together += it->sum[s];
     }
-    it->key = greatest * 16 + together * 15 / (sets * 256);
+    it->key = (greatest + together) * 16 / (sets + 1);
 }
 
 static void begin(struct stand *it, const uint8_t *board)
