@@ -1,7 +1,7 @@
 #!/usr/bin/env python3
 """Draws docs/random.svg: how many boards it takes to prove that a known solution of a random board of the 24-puzzle is shortest, by
-share of the boards that docs/results has of Korf and Felner's fifty: those that are proved, as they were counted, and those that are
-open, as tools/choose_tables.py expects them. Times of one core are at 85 ns a board. The axes of boards and times are logarithmic.
+share of the boards that docs/results has of Korf and Felner's fifty: those that are proved, over the tables of docs/RESULTS.md or over
+chosen ones, as they were counted, and those that are open, as tools/choose_tables.py expects them. Times of one core are at 85 ns a board. The axes of boards and times are logarithmic.
 
     benches/plots/plot_random.py
 """
@@ -36,6 +36,10 @@ def disc(x, y, colour):
     return f'<circle cx="{x:.1f}" cy="{y:.1f}" r="5" fill="{colour}"/>'
 
 
+def ring(x, y, colour):
+    return f'<circle cx="{x:.1f}" cy="{y:.1f}" r="4.25" fill="none" stroke="{colour}" stroke-width="1.5"/>'
+
+
 def square(x, y, colour):
     return f'<rect x="{x - 5:.1f}" y="{y - 5:.1f}" width="10" height="10" fill="{colour}"/>'
 
@@ -60,14 +64,16 @@ def grid():
 def legend():
     yield disc(LEFT + 20, TOP + 14, KNOWN)
     yield text(LEFT + 34, TOP + 18, "proved, of the boards of Korf and Felner (2002)", "start")
-    yield square(LEFT + 20, TOP + 36, ESTIMATED)
-    yield text(LEFT + 34, TOP + 40, "expected of those that are open", "start")
+    yield ring(LEFT + 20, TOP + 36, KNOWN)
+    yield text(LEFT + 34, TOP + 40, "proved over chosen tables", "start")
+    yield square(LEFT + 20, TOP + 58, ESTIMATED)
+    yield text(LEFT + 34, TOP + 62, "expected of those that are open", "start")
 
 
 def main():
     folder = pathlib.Path(__file__).resolve().parents[2] / "docs"
     marks = []
-    for name, mark, colour in ("", disc, KNOWN), ("_open", square, ESTIMATED):
+    for name, mark, colour in ("", disc, KNOWN), ("_chosen", ring, KNOWN), ("_open", square, ESTIMATED):
         with (folder / f"results/korf_felner_2002{name}.csv").open() as file:
             marks += [(float(row["boards"]), mark, colour) for row in csv.DictReader(file)]
     marks.sort(key=lambda it: it[0])

@@ -25,6 +25,7 @@ read -ra masks <<<"$masks"
 for mask in "${masks[@]}"; do
     [ -e "t$mask" ] || "$root/pdb_cli" make-table 5 "$mask" "t$mask" --workers "$workers" || exit 1
 done
-tr ';' '\n' <<<"$sets" | sed 's/^/set /' >sets && sed -n "${place}p" "$results.claims" >claims || exit 1
+IFS=';' read -ra lines <<<"$sets"
+printf 'set %s\n' "${lines[@]}" >sets && sed -n "${place}p" "$results.claims" >claims || exit 1
 "$root/pdb_cli" prove claims sets "${masks[@]/#/t}" --workers "$workers" |
     diff - <(awk -v place="$place" '{ block = block $0 "\n" } !/^sha256 / { if (++count == place) printf "%s", block; block = "" }' "$results.answers") || exit 1

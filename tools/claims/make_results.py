@@ -5,7 +5,8 @@
 
 NAME.claims has boards and moves, as `prove` reads them, and NAME.answers is what it wrote. NAME.csv has a line for each claim: its
 number in the literature, the moves that it is said to have there, and how many boards the last search expanded, which found no shorter
-solution, or nothing where that were fewer than 65,536. The files must agree, and the moves must solve the boards.
+solution, or nothing where that were fewer than 65,536; of a board with tables of its own also the seconds of processor time, the masks of
+the tables and the sets, with `;` between them. The files must agree, and the moves must solve the boards.
 """
 
 import csv
@@ -55,7 +56,18 @@ printf 'set 0 1 2 3\\nset 0t 1t 2t 3t\\n' >sets
     diff - docs/results/korf_felner_2002.answers
 ```
 
-The last searches expand {boards} boards in all. The count of number 6 is rounded. One run wrote the answers of numbers 37 and 43, in 7 minutes of processor time, and another those of all others, in 23; each by four workers, beside other work.
+The last searches expand {boards} boards in all. Several runs wrote these answers, each by four workers, beside other work. Some counts were noted within a percent.
+"""
+CHOSEN = """\
+## The 24-puzzle: {count} boards over chosen tables
+
+These boards of Korf and Felner have solutions of {least} to {most} moves. Tables were [chosen](CHOOSING.md) for each, since those above leave more boards. The files: [boards and moves](results/korf_felner_2002_chosen.claims), [answers](results/korf_felner_2002_chosen.answers) with the digests of the tables, and their [masks and sets](results/korf_felner_2002_chosen.csv). One command makes the tables of a board, answers its claim and compares, here number {first}; it takes up to 9 GB of memory, and 7.2 GB of the disk:
+
+```
+tools/claims/answer_chosen.sh {first}
+```
+
+The last searches expand {boards} boards in all, noted within a percent. The runs took {hours:.1f} hours of processor time, beside other work.
 """
 OPEN = """\
 ## {count} boards of Korf and Felner that are open
@@ -140,12 +152,18 @@ def open_section(name, text, across):
     print("\n".join(table(shown, across)))
 
 
+def hours(name):
+    """The hours of processor time that the claims of these results took, where that is noted."""
+    with (ROOT / "docs" / "results" / f"{name}.csv").open() as file:
+        return sum(float(it.get("seconds", 0)) for it in csv.DictReader(file)) / 3600
+
+
 def section(name, text, lines_of):
     shown = list(rows(name))
     moves = [it for _, it, _ in shown]
     boards = sum(int(it.replace(",", "")) for _, _, it in shown if it != FEW)
     print()
-    print(text.format(count=len(shown), least=min(moves), most=max(moves), boards=f"{boards:,}"))
+    print(text.format(count=len(shown), first=shown[0][0], least=min(moves), most=max(moves), boards=f"{boards:,}", hours=hours(name)))
     print("\n".join(lines_of(shown)))
 
 
@@ -153,6 +171,7 @@ def main():
     print(INTRODUCTION, end="")
     section("korf_1985", KORF, lengths)
     section("korf_felner_2002", KORF_AND_FELNER, lambda shown: table(shown, 2))
+    section("korf_felner_2002_chosen", CHOSEN, lambda shown: table(shown, 2))
     open_section("korf_felner_2002_open", OPEN, 2)
 
 
