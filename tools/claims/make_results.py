@@ -76,7 +76,7 @@ Nothing is proved here of these. Below are the lengths that they are said to hav
 
 ```
 sed -n 1p docs/results/korf_felner_2002_open.claims >claims
-tools/choose_tables.py claims >run.sh
+tools/choose_tables.py claims --memory 9 >run.sh
 sh run.sh
 ```
 
