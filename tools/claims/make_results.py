@@ -56,7 +56,7 @@ printf 'set 0 1 2 3\\nset 0t 1t 2t 3t\\n' >sets
     diff - docs/results/korf_felner_2002.answers
 ```
 
-The last searches expand {boards} boards in all. Several runs wrote these answers, each by four workers, beside other work. Some counts were noted within a percent.
+The last searches expand {boards} boards in all. Several runs wrote these answers, each by four workers, in 2.8 hours of processor time together. Of that 1.8 hours went into six boards, of which `prove` found the moves of numbers 24, 41, 42, 45 and 49 from the board alone. Some counts were noted within a percent.
 """
 CHOSEN = """\
 ## The 24-puzzle: {count} boards over chosen tables
