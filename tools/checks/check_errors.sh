@@ -287,6 +287,10 @@ for workers in 1 4; do
 done
 printf '%s\n' "$first_hard" '0 1 2 3 4 5 6 7 8 : 1' >first_and_goal
 says 'refused O2 by of 0 1 2 3 4 5 6 7 8 : 1' 'prove first_and_goal one_set three_of_side_3 --budget 80000'
+# A false bound is refused as soon as the moves can be found, however far off it is: 1,000 boards are enough here.
+far="1 2 0 $(seq -s ' ' 3 24)"
+echo "$far : 60" >far_bound
+says "refused O2 by LL of $far : 60" 'prove far_bound one_set F24 --budget 1000'
 echo "$first_hard" >far_board
 says "refused K1 of $first_hard" 'prove far_board one_set three_of_side_3 --budget 60000'
 # Without the strings those below 24 expand 29,258 boards, and that below 26 expands 73,355 more.
